@@ -1,0 +1,51 @@
+-- The four laws of signs, which carry every theorem on the sign of a grid; they hold of every number. Assumes nothing.
+use mathlib.Core.Path.{_≡_, refl, sym, _∙_, ap}
+use mathlib.Core.Bool.{Bool, true, false, not, _&&_, _||_, cond}
+use Prim.Native.Nat.{ℕ, _+_, _-_, _/_, _%_, _<_, _≤_}
+use native.Mathlib.Omega.{arith}
+use lib.Dec.{eqb}
+use lib.Ieee.{lt}
+use borrow.Author.Tests.{eq-eqb, ne-eqb, eqb-true, eqb-false}
+use Rattle.floats.specs.Value.{value, negative, negated, far, farWith, before, least, most}
+
+pub negative-far : negative far ≡ false
+unfolding negative far
+negative-far = refl
+
+pub negative-negated : (w : ℕ) → negative (negated w) ≡ not (negative w)
+unfolding negative negated
+negative-negated w = go (eqb (w / 0x8000_0000 % 2) 1) refl
+  where
+    go : (s : Bool) → eqb (w / 0x8000_0000 % 2) 1 ≡ s → eqb (cond s (w - 0x8000_0000) (w + 0x8000_0000) / 0x8000_0000 % 2) 1 ≡ not s
+    go true e = let a : w / 0x8000_0000 % 2 ≡ 1 = eqb-true _ _ e in ne-eqb ((w - 0x8000_0000) / 0x8000_0000 % 2) 1 (λ (h : (w - 0x8000_0000) / 0x8000_0000 % 2 ≡ 1). omega arith)
+    go false e = let a : w / 0x8000_0000 % 2 ≡ 1 → ⊥ = eqb-false _ _ e in eq-eqb ((w + 0x8000_0000) / 0x8000_0000 % 2) 1 (omega arith)
+
+pub negative-farWith : (s : Bool) → negative (farWith s) ≡ s
+unfolding farWith
+negative-farWith true = negative-negated far ∙ ap not negative-far
+negative-farWith false = negative-far
+
+-- of two values of one sign either has it; of two signs the negative one comes first
+pub negative-least : (v w : ℕ) → negative (least v w) ≡ (negative v || negative w)
+unfolding least before
+negative-least v w = go (negative v) (negative w) (lt (value v) (value w)) refl refl
+  where
+    go : (s t x : Bool) → negative v ≡ s → negative w ≡ t → negative (cond (cond s (cond t x true) (cond t false x)) v w) ≡ (s || t)
+    go true true true p q = p
+    go true true false p q = q
+    go true false x p q = p
+    go false true x p q = q
+    go false false true p q = p
+    go false false false p q = q
+
+pub negative-most : (v w : ℕ) → negative (most v w) ≡ (negative v && negative w)
+unfolding most before
+negative-most v w = go (negative v) (negative w) (lt (value v) (value w)) refl refl
+  where
+    go : (s t x : Bool) → negative v ≡ s → negative w ≡ t → negative (cond (cond s (cond t x true) (cond t false x)) w v) ≡ (s && t)
+    go true true true p q = q
+    go true true false p q = p
+    go true false x p q = q
+    go false true x p q = p
+    go false false true p q = q
+    go false false false p q = p

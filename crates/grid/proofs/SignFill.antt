@@ -1,0 +1,77 @@
+-- Sign fill keeps lookups, and filling twice is filling once. Assumes nothing.
+use mathlib.Core.Path.{_≡_, refl, _∙_, ap, fun-ext}
+use mathlib.Core.Bool.{Bool}
+use mathlib.Core.List.{List, [], _∷_}
+use Prim.Native.Nat.{ℕ, zero, suc, _+_, _*_, _/_, _%_, _^_}
+use Rattle.floats.specs.Value.{negative, farWith}
+use Rattle.grid.specs.Geometry.{Point, slotOf}
+use Rattle.grid.specs.Node.{branch, tile, hidden, onSlot, slot-ind, size, Node, SlotOf}
+use Rattle.grid.specs.SignFill.{firstSign, replaced, along, start, signI, signJ, signK, carried, written, filledRows, fillSigns, fillSignsS}
+use Rattle.grid.specs.Voxel.{lookup, lookupS}
+
+pub flood-look : (bs : List ℕ) (c : Node bs) (p : Point) → lookup bs (fillSigns bs c) p ≡ lookup bs c p
+unfolding lookup fillSigns filledRows
+flood-look [] c p = absurd c
+flood-look (b ∷ bs) n p =
+    slot-ind (λ s. (k : Bool) → lookupS bs (written bs k (fillSignsS bs s)) p ≡ lookupS bs s p)
+    (λ c k. flood-look bs c p) (λ v k. refl) (λ v k. refl)
+    (n (slotOf b bs p)) (carried b bs (λ i. fillSignsS bs (n i)) (slotOf b bs p % size b))
+
+-- what is written into hidden slots does not change what goes along a row, nor where the rows start
+along-same : (bs : List ℕ) (f g : ℕ → SlotOf bs) → ((k : Bool) (i : ℕ) → replaced bs k (f i) ≡ replaced bs k (g i))
+    → (s s' : Bool) → s ≡ s' → (k : ℕ) → along bs f s k ≡ along bs g s' k
+unfolding along
+along-same bs f g h s s' e zero = ap (λ (x : Bool). replaced bs x (f 0)) e ∙ h s' 0
+along-same bs f g h s s' e (suc k) = ap (λ (x : Bool). replaced bs x (f (suc k))) (along-same bs f g h s s' e k) ∙ h (along bs g s' k) (suc k)
+
+begin : (bs : List ℕ) → Bool → SlotOf bs → Bool
+begin bs r s = onSlot (λ c. firstSign bs c) negative (λ v. r) s
+
+start-same : (bs : List ℕ) (k : ℕ) (f g : ℕ → SlotOf bs) → ((r : Bool) (i : ℕ) → begin bs r (f i) ≡ begin bs r (g i)) → start bs k f ≡ start bs k g
+unfolding start begin
+start-same bs zero f g h = refl
+start-same bs (suc k) f g h =
+    h (start bs k (λ i. f (suc i))) 0
+    ∙ ap (λ (r : Bool). begin bs r (g 0)) (start-same bs k (λ i. f (suc i)) (λ i. g (suc i)) (λ r i. h r (suc i)))
+
+carried-same : (b : ℕ) (bs : List ℕ) (f g : Node (b ∷ bs)) → ((k : Bool) (i : ℕ) → replaced bs k (f i) ≡ replaced bs k (g i))
+    → ((r : Bool) (i : ℕ) → begin bs r (f i) ≡ begin bs r (g i)) → (i : ℕ) → carried b bs f i ≡ carried b bs g i
+unfolding carried signK signJ signI
+carried-same b bs f g h h' i =
+    along-same bs _ _ (λ k j. h k (x * 2 ^ (2 * b) + y * 2 ^ b + j)) _ _
+    (along-same bs _ _ (λ k j. h k (x * 2 ^ (2 * b) + j * 2 ^ b)) _ _
+    (along-same bs _ _ (λ k j. h k (j * 2 ^ (2 * b))) _ _ (start-same bs (size b) f g h') x) y)
+    (i % 2 ^ b)
+  where
+    x : ℕ
+    x = i / 2 ^ (2 * b)
+
+    y : ℕ
+    y = i % 2 ^ (2 * b) / 2 ^ b
+
+-- a node whose children are filled
+filled-twice : (b : ℕ) (bs : List ℕ) (n : Node (b ∷ bs)) → filledRows b bs (filledRows b bs n) ≡ filledRows b bs n
+unfolding filledRows begin
+filled-twice b bs n =
+    fun-ext (λ i.
+    twice i (n i)
+    (carried-same b bs (λ j. written bs (carried b bs n (j % size b)) (n j)) n
+    (λ k j. slot-ind (λ s. (e : Bool) → replaced bs k (written bs e s) ≡ replaced bs k s) (λ c e. refl) (λ v e. refl) (λ v e. refl) (n j) (carried b bs n (j % size b)))
+    (λ k j. slot-ind (λ s. (e : Bool) → begin bs k (written bs e s) ≡ begin bs k s) (λ c e. refl) (λ v e. refl) (λ v e. refl) (n j) (carried b bs n (j % size b)))
+    (i % size b)))
+  where
+    twice : (i : ℕ) (s : SlotOf bs) {k k' : Bool} → k ≡ k' → written bs k (written bs k' s) ≡ written bs k' s
+    twice i (branch c) e = refl
+    twice i (tile v) e = refl
+    twice i (hidden v) e = ap (λ (x : Bool). hidden (farWith x)) e
+
+pub flood-twice : (bs : List ℕ) (c : Node bs) → fillSigns bs (fillSigns bs c) ≡ fillSigns bs c
+unfolding fillSigns filledRows
+flood-twice [] c = absurd c
+flood-twice (b ∷ bs) n =
+    ap (filledRows b bs)
+    (fun-ext (λ i.
+    slot-ind (λ s. (k : Bool) → fillSignsS bs (written bs k (fillSignsS bs s)) ≡ written bs k (fillSignsS bs s))
+    (λ c k. ap branch (flood-twice bs c)) (λ v k. refl) (λ v k. refl)
+    (n i) (carried b bs (λ j. fillSignsS bs (n j)) (i % size b))))
+    ∙ filled-twice b bs (λ i. fillSignsS bs (n i))

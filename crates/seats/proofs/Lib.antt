@@ -1,0 +1,7 @@
+-- The theorems on the calls.
+pub mod Names
+pub mod Refusal
+pub mod Laws
+pub mod Promise
+pub mod Runs
+pub mod Chains
