@@ -1,7 +1,7 @@
 -- Which words and which floats are finite. Assumes nothing.
 use mathlib.Core.Path.{_≡_, refl, sym, ap, _∙_, subst}
 use mathlib.Core.Bool.{Bool, true, false, not, cond}
-use Prim.Native.Nat.{ℕ, zero, suc, _+_, _/_, _%_, _^_, _≤_, _<_}
+use Prim.Native.Nat.{ℕ, zero, suc, _+_, _/_, _%_, _^_, _<_}
 use native.Mathlib.Omega.{arith}
 use lib.Dec.{T, leb, eqb}
 use lib.Ieee.{Float, nan, inf, fin, binary32, odd, ofFields, ofBits, toBits, neg, isNan, nanBits, fits, lt}
@@ -54,6 +54,10 @@ unfolding isFinite
 finite-word-of x f h = ap finite (ofBits-toBits binary32 x f) ∙ h
 
 -- ---- what is made of finite words is finite
+pub finite-cond : (b : Bool) (x y : Float) → finite x ≡ true → finite y ≡ true → finite (cond b x y) ≡ true
+finite-cond true x y p q = p
+finite-cond false x y p q = q
+
 pub finite-negated : (w : ℕ) → isFinite (negated w) ≡ isFinite w
 finite-negated w = finite-word (negated w) ∙ ap (λ (n : ℕ). not (eqb (n / 8388608) 255)) (negated-size w) ∙ sym (finite-word w)
 

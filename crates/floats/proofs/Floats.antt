@@ -1,10 +1,10 @@
 -- A word and the float it stands for: sign, negation, and the way there and back. Assumes nothing.
-use mathlib.Core.Path.{_≡_, refl, sym, ap, _∙_, subst}
+use mathlib.Core.Path.{_≡_, refl, sym, ap, _∙_}
 use mathlib.Core.Bool.{Bool, true, false, not, cond}
 use Prim.Native.Nat.{ℕ, zero, suc, _+_, _/_, _%_, _^_, _<_}
 use native.Mathlib.Omega.{arith}
 use lib.Dec.{T, leb, eqb}
-use lib.Ieee.{Float, nan, inf, fin, binary32, odd, ofFields, ofBits, toBits, neg, fits}
+use lib.Ieee.{Float, nan, inf, binary32, odd, ofFields, ofBits, toBits, neg, fits}
 use lib.Ieee.Bits.{ofBits-toBits, toBits-ofBits}
 use Rattle.floats.specs.Value.{value, isFinite, negative, negated}
 use Rattle.floats.proofs.Words.{negative-is, negated-size, negated-fits}

@@ -1,7 +1,7 @@
--- The four laws of signs, which carry every theorem on the sign of a grid; they hold of every number. Assumes nothing.
-use mathlib.Core.Path.{_≡_, refl, sym, _∙_, ap}
+-- The laws of signs, which carry every theorem on the sign of a grid; they hold of every number. Assumes nothing.
+use mathlib.Core.Path.{_≡_, refl, _∙_, ap}
 use mathlib.Core.Bool.{Bool, true, false, not, _&&_, _||_, cond}
-use Prim.Native.Nat.{ℕ, _+_, _-_, _/_, _%_, _<_, _≤_}
+use Prim.Native.Nat.{ℕ, _+_, _-_, _/_, _%_}
 use native.Mathlib.Omega.{arith}
 use lib.Dec.{eqb}
 use lib.Ieee.{lt}
@@ -26,26 +26,23 @@ negative-farWith true = negative-negated far ∙ ap not negative-far
 negative-farWith false = negative-far
 
 -- of two values of one sign either has it; of two signs the negative one comes first
-pub negative-least : (v w : ℕ) → negative (least v w) ≡ (negative v || negative w)
-unfolding least before
-negative-least v w = go (negative v) (negative w) (lt (value v) (value w)) refl refl
+both : (v w : ℕ) → (negative (least v w) ≡ (negative v || negative w)) × (negative (most v w) ≡ (negative v && negative w))
+unfolding least most before
+both v w = go (negative v) (negative w) (lt (value v) (value w)) refl refl
   where
-    go : (s t x : Bool) → negative v ≡ s → negative w ≡ t → negative (cond (cond s (cond t x true) (cond t false x)) v w) ≡ (s || t)
-    go true true true p q = p
-    go true true false p q = q
-    go true false x p q = p
-    go false true x p q = q
-    go false false true p q = p
-    go false false false p q = q
+    first : Bool → Bool → Bool → Bool
+    first s t x = cond s (cond t x true) (cond t false x)
+
+    go : (s t x : Bool) → negative v ≡ s → negative w ≡ t → (negative (cond (first s t x) v w) ≡ (s || t)) × (negative (cond (first s t x) w v) ≡ (s && t))
+    go true true true p q = (p, q)
+    go true true false p q = (q, p)
+    go true false x p q = (p, q)
+    go false true x p q = (q, p)
+    go false false true p q = (p, q)
+    go false false false p q = (q, p)
+
+pub negative-least : (v w : ℕ) → negative (least v w) ≡ (negative v || negative w)
+negative-least v w = both v w .0
 
 pub negative-most : (v w : ℕ) → negative (most v w) ≡ (negative v && negative w)
-unfolding most before
-negative-most v w = go (negative v) (negative w) (lt (value v) (value w)) refl refl
-  where
-    go : (s t x : Bool) → negative v ≡ s → negative w ≡ t → negative (cond (cond s (cond t x true) (cond t false x)) w v) ≡ (s && t)
-    go true true true p q = q
-    go true true false p q = p
-    go true false x p q = q
-    go false true x p q = p
-    go false false true p q = q
-    go false false false p q = p
+negative-most v w = both v w .1

@@ -1,10 +1,11 @@
 -- Words as numbers, with no float: the sign bit and the rest of a word, its negation, and what least and most keep. Assumes nothing.
 use mathlib.Core.Path.{_≡_, refl, sym, _∙_}
+use mathlib.Core.Logic.{_⊎_, inl, inr}
 use mathlib.Core.Bool.{Bool, true, false, cond}
-use Prim.Native.Nat.{ℕ, _+_, _-_, _*_, _/_, _%_, _<_, _≤_}
+use Prim.Native.Nat.{ℕ, _+_, _-_, _/_, _%_, _<_, _≤_}
 use native.Mathlib.Omega.{arith}
 use lib.Dec.{eqb, leb}
-use borrow.Author.Tests.{eq-eqb, ne-eqb, eqb-true, eqb-false, le-leb, lt-leb}
+use borrow.Author.Tests.{eqb-true, eqb-false, le-leb, lt-leb}
 use Rattle.floats.specs.Value.{negative, negated, before, least, most}
 
 pub on-case : {A : Type 0} (b : Bool) → (b ≡ true → A) → (b ≡ false → A) → A
@@ -58,6 +59,13 @@ module _ (P : ℕ → Type 0) (v w : ℕ) (p : P v) (q : P w) where
   pub most-has : P (most v w)
   unfolding most
   most-has = pick P (before v w) q p
+
+module _ (v w : ℕ) where
+  pub least-one : (least v w ≡ v) ⊎ (least v w ≡ w)
+  least-one = least-has (λ n. (n ≡ v) ⊎ (n ≡ w)) v w (inl refl) (inr refl)
+
+  pub most-one : (most v w ≡ v) ⊎ (most v w ≡ w)
+  most-one = most-has (λ n. (n ≡ v) ⊎ (n ≡ w)) v w (inl refl) (inr refl)
 
 module _ (v w : ℕ) (p : v < 0x1_0000_0000) (q : w < 0x1_0000_0000) where
   pub least-fits : least v w < 0x1_0000_0000

@@ -135,21 +135,24 @@ module _ (p : Point) where
       ∙ put-look b bs n (slotOf b bs p) (removeS bs p) q
       (λ e. rem-there bs (n (slotOf b bs q)) q (λ g. h (e, g)))
 
-  -- the rules as document 01 has them, of a whole grid
-  pub insert-here : (v : ℕ) (b : ℕ) (bs : List ℕ) (n : Node (b ∷ bs))
-      → (lookup (b ∷ bs) (insert (b ∷ bs) p v n) p ≡ some v)
+  -- ---- the rules as document 01 has them, of a whole grid
+
+  -- "Afterwards the lookup at p is the given value (under an equal tile, the tile's own zero stays)", and then no slot has changed
+  abbrev pub InsertHere : (v : ℕ) (b : ℕ) (bs : List ℕ) (n : Node (b ∷ bs)) → Type 0
+  InsertHere v b bs n =
+      (lookup (b ∷ bs) (insert (b ∷ bs) p v n) p ≡ some v)
       ⊎ ((w : ℕ) × T (equal w v) × (lookup (b ∷ bs) n p ≡ some w) × (lookup (b ∷ bs) (insert (b ∷ bs) p v n) p ≡ some w)
       × (Proper (b ∷ bs) n → insert (b ∷ bs) p v n ≡ n))
+
+  pub insert-here : (v : ℕ) (b : ℕ) (bs : List ℕ) (n : Node (b ∷ bs)) → InsertHere v b bs n
   unfolding insert insertS lookup
   insert-here v b bs n = go (ins-here v (b ∷ bs) (branch n))
     where
-      go : Here v (b ∷ bs) (branch n) (branch (insert (b ∷ bs) p v n))
-          → (lookup (b ∷ bs) (insert (b ∷ bs) p v n) p ≡ some v)
-          ⊎ ((w : ℕ) × T (equal w v) × (lookup (b ∷ bs) n p ≡ some w) × (lookup (b ∷ bs) (insert (b ∷ bs) p v n) p ≡ some w)
-          × (Proper (b ∷ bs) n → insert (b ∷ bs) p v n ≡ n))
+      go : Here v (b ∷ bs) (branch n) (branch (insert (b ∷ bs) p v n)) → InsertHere v b bs n
       go (inl e) = inl e
       go (inr (w, t, l, l', e)) = inr (w, t, l, l', λ r. ap (onSlot (λ m. m) (λ _. n) (λ _. n)) (e r))
 
+  -- "every q with other masked coordinates looks up as before"
   pub insert-there : (v : ℕ) (b : ℕ) (bs : List ℕ) (n : Node (b ∷ bs)) (q : Point) → (Alike (total (b ∷ bs)) q p → ⊥)
       → lookup (b ∷ bs) (insert (b ∷ bs) p v n) q ≡ lookup (b ∷ bs) n q
   unfolding insert insertS

@@ -3,11 +3,10 @@ use mathlib.Core.Path.{_≡_, refl, sym, _∙_, ap, ap₂, subst}
 use mathlib.Core.List.{List, [], _∷_}
 use Prim.Native.Nat.{ℕ, _+_, _<_, _≤_}
 use native.Mathlib.Omega.{arith}
-use Rattle.grid.specs.Whole.{cells}
 use Rattle.seats.specs.Call.{Call}
 use Rattle.seats.specs.Promise.{Memory, Event, Chain, Run}
 use Rattle.seats.specs.Run.{callsOf, answersTo, strike, Undisturbed, NeverShort, trace, said, end}
-use Rattle.seats.specs.Seat.{State, prepared, used, free}
+use Rattle.seats.specs.Seat.{State, prepared, used}
 use Rattle.seats.specs.Step.{step}
 use Rattle.seats.proofs.Laws.{fresh-used}
 use Rattle.seats.proofs.Promise.{sound-free, sim, begin}

@@ -5,3 +5,7 @@ pub mod Laws
 pub mod Promise
 pub mod Runs
 pub mod Chains
+pub mod Rules
+pub mod Table
+pub mod Proper
+pub mod Witness

@@ -6,8 +6,7 @@ use mathlib.Core.Logic.{_⊎_, inl, inr}
 use mathlib.Core.Option.{Option, none, some}
 use Prim.Native.Nat.{ℕ, _<_}
 use lib.Dec.{leb}
-use Rattle.floats.proofs.Words.{negative-is}
-use Rattle.grid.specs.Node.{size, put}
+use Rattle.grid.specs.Node.{put}
 use Rattle.grid.proofs.Places.{put-at}
 use Rattle.seats.specs.Call.{Lookup, Sign, Remove, Insert, Fill, Cut, Clear, Prune, Flip, FillSigns, IsEmpty, Copy, Combine, Call, One, Two, Prepare, Count, names, Answer, refused, found, negativeIs, emptyIs, freeCells, done}
 use Rattle.seats.specs.Promise.{among, Agree, Verdict, refuse, give, turn, loose, Accepted, Memory, grants, refuseOr, verdict, Keeps, Promise}

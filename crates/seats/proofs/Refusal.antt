@@ -8,11 +8,10 @@ use Prim.Native.Nat.{ℕ, _<_, _≤_}
 use native.Mathlib.Omega.{arith}
 use lib.Dec.{T, leb, leb→le, le→leb}
 use lib.Ieee.Bits.{is-true}
-use Rattle.grid.specs.Whole.{hollow}
 use Rattle.seats.specs.Call.{Pair, Call, Two, names, onKind, asks}
 use Rattle.seats.specs.Promise.{among, Agree}
 use Rattle.seats.specs.Refusal.{Reads, rest, lengths, seatAbove, seatsEqual, notFinite, unsound, notFilled, hollowBranch, ontoFull, Row, order, first, refusal}
-use Rattle.seats.specs.Seat.{Seat, free}
+use Rattle.seats.specs.Seat.{Seat}
 use Rattle.seats.specs.Step.{needOf, readsOf}
 use Rattle.seats.proofs.Names.{eqb-not, not-above, among-rest, any-same, any-none}
 

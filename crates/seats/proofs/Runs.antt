@@ -110,9 +110,9 @@ module _ (b : ℕ) (bs : List ℕ) where
             → answersTo a (trace b bs st (c ∷ cs)) ≡ answersTo a (trace b bs st' (strike a (c ∷ cs)))
         go true y e _ ih =
             let k = own-step st st' h c (s .0 e .0) (s .0 e .1) in
-            rw (e, e, e) (ap₂ _∷_ (k .0) (ih (step b bs st c .1) (step b bs st' c .1) (k .1) (s .1)))
+            rw (e, e) (ap₂ _∷_ (k .0) (ih (step b bs st c .1) (step b bs st' c .1) (k .1) (s .1)))
         go false true e g ih =
-            rw (e, g)
+            rw (e, g, e)
             (ih (step b bs st c .1) (step b bs st' c .1) (count-step (step b bs st c .1) st' (other-step st st' h c e) c g) (s .1))
         go false false e g ih = rw (e, g) (ih (step b bs st c .1) st' (other-step st st' h c e) (s .1))
 

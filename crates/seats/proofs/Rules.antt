@@ -1,0 +1,90 @@
+-- The rules in calls on a sound pool: what lookups answer after an accepted call. Assumes nothing.
+use mathlib.Core.Path.{_≡_, refl, sym, _∙_, ap, subst}
+use mathlib.Core.Bool.{false}
+use mathlib.Core.List.{List, _∷_}
+use mathlib.Core.Logic.{_⊎_, inl, inr}
+use mathlib.Core.Option.{none, some}
+use Prim.Native.Nat.{ℕ, _<_}
+use lib.Dec.{T, leb}
+use lib.Arith.{lt→nleb}
+use lib.Ieee.Bits.{is-false}
+use Rattle.grid.proofs.Voxel as voxel
+use Rattle.floats.specs.Value.{equal}
+use Rattle.grid.specs.Geometry.{Point, total, Alike}
+use Rattle.grid.specs.Voxel.{lookup, insert}
+use Rattle.grid.proofs.Places.{put-same}
+use Rattle.grid.proofs.Voxel.{InsertHere}
+use Rattle.seats.specs.Call.{Act, Lookup, Remove, Insert, Call, One, Answer, found, done}
+use Rattle.seats.specs.Promise.{Accepted, Memory, Promise}
+use Rattle.seats.specs.Seat.{Seat, State, free}
+use Rattle.seats.specs.Step.{act, served, play, step}
+use Rattle.seats.proofs.Laws.{play-at}
+use Rattle.seats.proofs.Promise.{sim}
+
+module _ (b : ℕ) (bs : List ℕ) where
+  -- a call that is accepted is served
+  accepted : (c : Call) (f : ℕ → Seat b bs) (k : ℕ) → Accepted (play b bs c f k .0) → play b bs c f k ≡ served b bs c f k
+  accepted c f k = play-at b bs (λ o. Accepted (o .0) → o ≡ served b bs c f k) c f k (λ n e h. absurd h) (λ e h. refl)
+
+  -- a lookup is never refused on a sound pool, and answers the seat's
+  pub lookup-call : (i : ℕ) → i < 8 → (p : Point) (st : State b bs) → step b bs st (One i (Lookup p)) .0 ≡ found (lookup (b ∷ bs) (st .seat i .grid) p)
+  unfolding step play served act
+  lookup-call i l p st = rw (is-false (leb 8 i) (lt→nleb 8 i l)) refl
+
+  -- the seat after an accepted call on it
+  seat-after : (i : ℕ) (x : Act) (st : State b bs) → Accepted (step b bs st (One i x) .0) → step b bs st (One i x) .1 .seat i ≡ act b bs x (st .seat i) .1
+  unfolding step served
+  seat-after i x st h = ap (λ o. o .1 i) (accepted (One i x) (st .seat) (free b bs st) h) ∙ put-same (st .seat) i (act b bs x (st .seat i) .1)
+
+  module _ (𝓜 : Memory b bs) (i : ℕ) (l : i < 8) (m m₁ : 𝓜 .Mem) (s : 𝓜 .Sound m) where
+    -- a lookup on a sound pool
+    pub lookup-answer : (q : Point) (r : Answer) (m' : 𝓜 .Mem) → Promise b bs 𝓜 (One i (Lookup q)) m r m' → r ≡ found (lookup (b ∷ bs) (𝓜 .state m .seat i .grid) q)
+    lookup-answer q r m' h = ap (λ o. o .0) (sim b bs 𝓜 (One i (Lookup q)) m r m' s h .0) ∙ lookup-call i l q (𝓜 .state m)
+
+    -- a lookup after an accepted call on the seat: the rules of one grid say what it shows
+    pub lookup-after : (x : Act) (a : Answer) → Promise b bs 𝓜 (One i x) m a m₁ → Accepted a → (q : Point) (r : Answer) (m' : 𝓜 .Mem)
+        → Promise b bs 𝓜 (One i (Lookup q)) m₁ r m' → r ≡ found (lookup (b ∷ bs) (act b bs x (𝓜 .state m .seat i) .1 .grid) q)
+    lookup-after x a h y q r m' h' =
+        let t = sim b bs 𝓜 (One i x) m a m₁ s h in
+        let u = sim b bs 𝓜 (One i (Lookup q)) m₁ r m' (t .1) h' in
+        ap (λ o. o .0) (u .0)
+        ∙ lookup-call i l q (𝓜 .state m₁)
+        ∙ ap (λ n. found (lookup (b ∷ bs) (n .grid) q))
+        (ap (λ o. o .1 .seat i) (t .0) ∙ seat-after i x (𝓜 .state m) (subst Accepted (ap (λ o. o .0) (t .0)) y))
+
+    module _ (p : Point) (v : ℕ) (done-it : Promise b bs 𝓜 (One i (Insert p v)) m done m₁) where
+      -- the insert rule: "the lookup at p is the given value (under an equal tile, the tile's own zero stays)"
+      pub insert-here : (r r' : Answer) (m' m'' : 𝓜 .Mem) → Promise b bs 𝓜 (One i (Lookup p)) m r m' → Promise b bs 𝓜 (One i (Lookup p)) m₁ r' m''
+          → (r' ≡ found (some v)) ⊎ ((w : ℕ) × T (equal w v) × (r ≡ found (some w)) × (r' ≡ found (some w)))
+      unfolding act
+      insert-here r r' m' m'' h h' = go (voxel.insert-here p v b bs (𝓜 .state m .seat i .grid))
+        where
+          after : r' ≡ found (lookup (b ∷ bs) (insert (b ∷ bs) p v (𝓜 .state m .seat i .grid)) p)
+          after = lookup-after (Insert p v) done done-it tt p r' m'' h'
+
+          go : voxel.InsertHere p v b bs (𝓜 .state m .seat i .grid) → (r' ≡ found (some v)) ⊎ ((w : ℕ) × T (equal w v) × (r ≡ found (some w)) × (r' ≡ found (some w)))
+          go (inl e) = inl (after ∙ ap found e)
+          go (inr (w, t, e, e', _)) = inr (w, t, lookup-answer p r m' h ∙ ap found e, after ∙ ap found e')
+
+      -- "and every q with other masked coordinates looks up as before"
+      pub insert-there : (q : Point) → (Alike (total (b ∷ bs)) q p → ⊥) → (r r' : Answer) (m' m'' : 𝓜 .Mem)
+          → Promise b bs 𝓜 (One i (Lookup q)) m r m' → Promise b bs 𝓜 (One i (Lookup q)) m₁ r' m'' → r' ≡ r
+      unfolding act
+      insert-there q ne r r' m' m'' h h' =
+          lookup-after (Insert p v) done done-it tt q r' m'' h'
+          ∙ ap found (voxel.insert-there p v b bs (𝓜 .state m .seat i .grid) q ne)
+          ∙ sym (lookup-answer q r m' h)
+
+    module _ (p : Point) (done-it : Promise b bs 𝓜 (One i (Remove p)) m done m₁) where
+      -- the remove rule
+      pub remove-here : (r' : Answer) (m'' : 𝓜 .Mem) → Promise b bs 𝓜 (One i (Lookup p)) m₁ r' m'' → r' ≡ found none
+      unfolding act
+      remove-here r' m'' h' = lookup-after (Remove p) done done-it tt p r' m'' h' ∙ ap found (voxel.remove-here p b bs (𝓜 .state m .seat i .grid))
+
+      pub remove-there : (q : Point) → (Alike (total (b ∷ bs)) q p → ⊥) → (r r' : Answer) (m' m'' : 𝓜 .Mem)
+          → Promise b bs 𝓜 (One i (Lookup q)) m r m' → Promise b bs 𝓜 (One i (Lookup q)) m₁ r' m'' → r' ≡ r
+      unfolding act
+      remove-there q ne r r' m' m'' h h' =
+          lookup-after (Remove p) done done-it tt q r' m'' h'
+          ∙ ap found (voxel.remove-there p b bs (𝓜 .state m .seat i .grid) q ne)
+          ∙ sym (lookup-answer q r m' h)
