@@ -15,10 +15,10 @@ use Rattle.grid.proofs.Geometry.{slot-lt}
 use Rattle.grid.proofs.Places.{every-at, sum-same, sum-zero, sum-le, sum-changed}
 
 -- a slot of a node changed
-pub put-cells : (b : ℕ) (bs : List ℕ) (n : Node (b ∷ bs)) (p : Point) (f : SlotOf bs → SlotOf bs)
+pub changed-cells : (b : ℕ) (bs : List ℕ) (n : Node (b ∷ bs)) (p : Point) (f : SlotOf bs → SlotOf bs)
     → reach b bs (changed (size b) (slotOf b bs p) f n) + cellsS bs (n (slotOf b bs p)) ≡ reach b bs n + cellsS bs (f (n (slotOf b bs p)))
 unfolding reach
-put-cells b bs n p f = sum-changed (cellsS bs) (size b) (slotOf b bs p) f n (slot-lt b bs p)
+changed-cells b bs n p f = sum-changed (cellsS bs) (size b) (slotOf b bs p) f n (slot-lt b bs p)
 
 pub flat-cells : (b : ℕ) (bs : List ℕ) (n : Node (b ∷ bs)) → ((i : ℕ) → cellsS bs (n i) ≡ 0) → reach b bs n ≡ 0
 unfolding reach
@@ -37,7 +37,7 @@ module _ (p : Point) (v : ℕ) where
       rw e (omega (
         arith,
         branch-cells b bs (changed (size b) (slotOf b bs p) (insertS bs p v) (λ _. tile w)),
-        put-cells b bs (λ _. tile w) p (insertS bs p v),
+        changed-cells b bs (λ _. tile w) p (insertS bs p v),
         flat-cells b bs (λ _. tile w) (λ _. refl),
         new-tile bs w e,
       ))
@@ -49,37 +49,37 @@ module _ (p : Point) (v : ℕ) where
       omega (
         arith,
         branch-cells b bs (changed (size b) (slotOf b bs p) (insertS bs p v) (λ _. hidden far)),
-        put-cells b bs (λ _. hidden far) p (insertS bs p v),
+        changed-cells b bs (λ _. hidden far) p (insertS bs p v),
         flat-cells b bs (λ _. hidden far) (λ _. refl),
         new-hidden bs far,
       )
 
-  pub ins-cells : (bs : List ℕ) (s : SlotOf bs) → cellsS bs (insertS bs p v s) ≡ cellsS bs s + needInsertS bs p v s
+  pub insertS-cells : (bs : List ℕ) (s : SlotOf bs) → cellsS bs (insertS bs p v s) ≡ cellsS bs s + needInsertS bs p v s
   unfolding insertS needInsertS
-  ins-cells [] (branch c) = absurd c
-  ins-cells [] (tile w) = refl
-  ins-cells [] (hidden w) = refl
-  ins-cells (b ∷ bs) (branch n) =
+  insertS-cells [] (branch c) = absurd c
+  insertS-cells [] (tile w) = refl
+  insertS-cells [] (hidden w) = refl
+  insertS-cells (b ∷ bs) (branch n) =
       omega (
         arith,
         branch-cells b bs (changed (size b) (slotOf b bs p) (insertS bs p v) n),
         branch-cells b bs n,
-        put-cells b bs n p (insertS bs p v),
-        ins-cells bs (n (slotOf b bs p)),
+        changed-cells b bs n p (insertS bs p v),
+        insertS-cells bs (n (slotOf b bs p)),
       )
-  ins-cells (b ∷ bs) (tile w) = go (equal w v) refl
+  insertS-cells (b ∷ bs) (tile w) = go (equal w v) refl
     where
       go : (k : Bool) → equal w v ≡ k → cellsS (b ∷ bs) (insertS (b ∷ bs) p v (tile w)) ≡ 0 + needInsertS (b ∷ bs) p v (tile w)
       go true e = rw e
       go false e = new-tile (b ∷ bs) w e ∙ rw e (omega arith)
-  ins-cells (b ∷ bs) (hidden w) = new-hidden (b ∷ bs) w ∙ omega arith
+  insertS-cells (b ∷ bs) (hidden w) = new-hidden (b ∷ bs) w ∙ omega arith
 
   -- of a whole grid
   pub insert-cells : (b : ℕ) (bs : List ℕ) (n : Node (b ∷ bs))
       → reach b bs (insert (b ∷ bs) p v n) ≡ reach b bs n + needInsertS bs p v (n (slotOf b bs p))
   unfolding insert
   insert-cells b bs n =
-      omega (arith, put-cells b bs n p (insertS bs p v), ins-cells bs (n (slotOf b bs p)))
+      omega (arith, changed-cells b bs n p (insertS bs p v), insertS-cells bs (n (slotOf b bs p)))
 
   -- as document 01 counts, of three levels: 2 if the top slot is no branch, 1 if the middle slot is none, else 0; 0 if the tile is equal
   module _ (b₂ b₁ : ℕ) where
@@ -129,32 +129,32 @@ module _ (p : Point) where
       omega (
         arith,
         branch-cells b bs (changed (size b) (slotOf b bs p) (removeS bs p) (λ _. tile w)),
-        put-cells b bs (λ _. tile w) p (removeS bs p),
+        changed-cells b bs (λ _. tile w) p (removeS bs p),
         flat-cells b bs (λ _. tile w) (λ _. refl),
         rem-tile bs w,
       )
 
-  pub rem-cells : (bs : List ℕ) (s : SlotOf bs) → cellsS bs (removeS bs p s) + freedS bs p s ≡ cellsS bs s + needRemoveS bs p s
+  pub removeS-cells : (bs : List ℕ) (s : SlotOf bs) → cellsS bs (removeS bs p s) + freedS bs p s ≡ cellsS bs s + needRemoveS bs p s
   unfolding removeS needRemoveS freedS
-  rem-cells [] (branch c) = absurd c
-  rem-cells [] (tile w) = refl
-  rem-cells [] (hidden w) = refl
-  rem-cells (b ∷ bs) (hidden w) = refl
-  rem-cells (b ∷ bs) (tile w) = omega (arith, rem-tile (b ∷ bs) w)
-  rem-cells (b ∷ bs) (branch n) =
+  removeS-cells [] (branch c) = absurd c
+  removeS-cells [] (tile w) = refl
+  removeS-cells [] (hidden w) = refl
+  removeS-cells (b ∷ bs) (hidden w) = refl
+  removeS-cells (b ∷ bs) (tile w) = omega (arith, rem-tile (b ∷ bs) w)
+  removeS-cells (b ∷ bs) (branch n) =
       omega (
         arith,
         kept-cells b bs (changed (size b) (slotOf b bs p) (removeS bs p) n),
         branch-cells b bs n,
-        put-cells b bs n p (removeS bs p),
-        rem-cells bs (n (slotOf b bs p)),
+        changed-cells b bs n p (removeS bs p),
+        removeS-cells bs (n (slotOf b bs p)),
       )
 
   pub remove-cells : (b : ℕ) (bs : List ℕ) (n : Node (b ∷ bs))
       → reach b bs (remove (b ∷ bs) p n) + freedS bs p (n (slotOf b bs p)) ≡ reach b bs n + needRemoveS bs p (n (slotOf b bs p))
   unfolding remove
   remove-cells b bs n =
-      omega (arith, put-cells b bs n p (removeS bs p), rem-cells bs (n (slotOf b bs p)))
+      omega (arith, changed-cells b bs n p (removeS bs p), removeS-cells bs (n (slotOf b bs p)))
 
 -- ---- combining
 

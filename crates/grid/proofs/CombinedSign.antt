@@ -12,7 +12,7 @@ use Rattle.grid.specs.Voxel.{signAt, signAtS}
 use Rattle.grid.specs.Whole.{flip, flipS}
 
 module _ (p : Point) where
-  flip-sign : (bs : List ℕ) (c : Node bs) → signAt bs (flip bs c) p ≡ not (signAt bs c p)
+  pub flip-sign : (bs : List ℕ) (c : Node bs) → signAt bs (flip bs c) p ≡ not (signAt bs c p)
   unfolding signAt flip
   flip-sign [] c = absurd c
   flip-sign (b ∷ bs) n =

@@ -1,10 +1,10 @@
 -- Slot numbers: in range; and two points that go through the same slots are the same point, masked. Assumes nothing.
 use mathlib.Core.Path.{_≡_, sym, _∙_, ap, ap₂}
 use mathlib.Core.List.{List, [], _∷_}
-use lib.IntN.{ℤ, pos, negsuc}
-use Prim.Native.Nat.{ℕ, _+_, _-_, _*_, _/_, _%_, _^_, _<_}
-use native.Mathlib.Nat.{mod-lt, add-mul}
+use Prim.Native.Nat.{ℕ, suc, _+_, _-_, _*_, _/_, _%_, _^_, _<_}
+use native.Mathlib.Nat.{mod-lt, add-mul, mul-mod-left}
 use native.Mathlib.Omega.{arith}
+use lib.IntN.{ℤ, pos, negsuc}
 use lib.Pow.{pow-pos, pow-add, shr-lt, split, mod-mod-pow}
 use lib.Arith.{digits-lt, digits-div, digits-mod}
 use Rattle.grid.specs.Geometry.{Point, masked, total, part, slotOf, Alike}
@@ -42,6 +42,14 @@ masked-low b c (negsuc n) = ap (λ (k : ℕ). k % 2 ^ c) whole ∙ digits-mod hi
 
     whole : 2 ^ (b + c) - 1 - m ≡ high * 2 ^ c + (2 ^ c - 1 - m % 2 ^ c)
     whole = omega (arith, ones, split m c, mod-lt m (pow-pos c), pow-pos c)
+
+-- they are the number modulo 2 ^ k: -1 - n and what is masked of it differ by a multiple
+pub masked-modulo : (k n : ℕ) → (masked k (negsuc n) + suc n) % 2 ^ k ≡ 0
+unfolding masked
+masked-modulo k n = ap (λ (m : ℕ). m % 2 ^ k) whole ∙ mul-mod-left (n / 2 ^ k + 1) (2 ^ k)
+  where
+    whole : 2 ^ k - 1 - n % 2 ^ k + suc n ≡ (n / 2 ^ k + 1) * 2 ^ k
+    whole = omega (arith, split n k, mod-lt n (pow-pos k)) ∙ sym (add-mul (n / 2 ^ k) 1 (2 ^ k))
 
 pub part-lt : (b c : ℕ) (x : ℤ) → part b c x < 2 ^ b
 unfolding part

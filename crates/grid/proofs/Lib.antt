@@ -1,4 +1,5 @@
 -- The theorems on one grid.
+pub mod Samples
 pub mod Places
 pub mod Geometry
 pub mod Voxel

@@ -39,6 +39,11 @@ every-at f (suc k) n i e h = go (ℕ-discrete i k) (every-at f k n i)
     go (yes g) ih = subst (λ (x : ℕ). f (n x) ≡ true) (sym g) (both .0)
     go (no g) ih = ih (both .1) (omega arith)
 
+pub every-all : {A : Type 0} (f : A → Bool) (k : ℕ) (n : ℕ → A) → ((i : ℕ) → f (n i) ≡ true) → every f k n ≡ true
+unfolding every
+every-all f zero n h = refl
+every-all f (suc k) n h = ap₂ _&&_ (h k) (every-all f k n h)
+
 pub sum-same : (k : ℕ) (f g : ℕ → ℕ) → ((j : ℕ) → j < k → f j ≡ g j) → sum k f ≡ sum k g
 unfolding sum
 sum-same zero f g h = refl

@@ -1,20 +1,23 @@
 -- Sign fill keeps lookups, and filling twice is filling once. Assumes nothing.
 use mathlib.Core.Path.{_≡_, refl, _∙_, ap, fun-ext}
-use mathlib.Core.Bool.{Bool}
+use mathlib.Core.Bool.{Bool, true, false, false≢true}
 use mathlib.Core.List.{List, [], _∷_}
-use Prim.Native.Nat.{ℕ, zero, suc, _+_, _*_, _/_, _%_, _^_}
-use Rattle.floats.specs.Value.{negative, farWith}
+use Prim.Native.Nat.{ℕ, zero, suc, _+_, _*_, _/_, _%_, _^_, _<_, _≤_}
+use native.Mathlib.Nat.{mod-le, mul-le-mul-right, div-mul-le-self, div-add-mod'}
+use native.Mathlib.Omega.{arith}
+use lib.Pow.{mod-mod-pow}
+use Rattle.floats.specs.Value.{negative, far, farWith}
 use Rattle.grid.specs.Geometry.{Point, slotOf}
-use Rattle.grid.specs.Node.{branch, tile, hidden, onSlot, slot-ind, size, Node, SlotOf}
+use Rattle.grid.specs.Node.{branch, tile, hidden, onSlot, slot-ind, isHidden, size, Node, SlotOf}
 use Rattle.grid.specs.SignFill.{firstSign, replaced, along, start, signI, signJ, signK, carried, written, filledRows, fillSigns, fillSignsS}
 use Rattle.grid.specs.Voxel.{lookup, lookupS}
 
-pub flood-look : (bs : List ℕ) (c : Node bs) (p : Point) → lookup bs (fillSigns bs c) p ≡ lookup bs c p
+pub fillSigns-lookup : (bs : List ℕ) (c : Node bs) (p : Point) → lookup bs (fillSigns bs c) p ≡ lookup bs c p
 unfolding lookup fillSigns filledRows
-flood-look [] c p = absurd c
-flood-look (b ∷ bs) n p =
+fillSigns-lookup [] c p = absurd c
+fillSigns-lookup (b ∷ bs) n p =
     slot-ind (λ s. (k : Bool) → lookupS bs (written bs k (fillSignsS bs s)) p ≡ lookupS bs s p)
-    (λ c k. flood-look bs c p) (λ v k. refl) (λ v k. refl)
+    (λ c k. fillSigns-lookup bs c p) (λ v k. refl) (λ v k. refl)
     (n (slotOf b bs p)) (carried b bs (λ i. fillSignsS bs (n i)) (slotOf b bs p % size b))
 
 -- what is written into hidden slots does not change what goes along a row, nor where the rows start
@@ -65,13 +68,76 @@ filled-twice b bs n =
     twice i (tile v) e = refl
     twice i (hidden v) e = ap (λ (x : Bool). hidden (farWith x)) e
 
-pub flood-twice : (bs : List ℕ) (c : Node bs) → fillSigns bs (fillSigns bs c) ≡ fillSigns bs c
+pub fillSigns-twice : (bs : List ℕ) (c : Node bs) → fillSigns bs (fillSigns bs c) ≡ fillSigns bs c
 unfolding fillSigns filledRows
-flood-twice [] c = absurd c
-flood-twice (b ∷ bs) n =
+fillSigns-twice [] c = absurd c
+fillSigns-twice (b ∷ bs) n =
     ap (filledRows b bs)
     (fun-ext (λ i.
     slot-ind (λ s. (k : Bool) → fillSignsS bs (written bs k (fillSignsS bs s)) ≡ written bs k (fillSignsS bs s))
-    (λ c k. ap branch (flood-twice bs c)) (λ v k. refl) (λ v k. refl)
+    (λ c k. ap branch (fillSigns-twice bs c)) (λ v k. refl) (λ v k. refl)
     (n i) (carried b bs (λ j. fillSignsS bs (n j)) (i % size b))))
     ∙ filled-twice b bs (λ i. fillSignsS bs (n i))
+
+-- ---- an empty grid
+
+-- every place that the rows read for slot i lies at or below i
+module _ (b i : ℕ) where
+  low-x : (j : ℕ) → j ≤ i / 2 ^ (2 * b) → j * 2 ^ (2 * b) ≤ i
+  low-x j h = omega (arith, mul-le-mul-right (2 ^ (2 * b)) h, div-mul-le-self i (2 ^ (2 * b)))
+
+  low-y : (j : ℕ) → j ≤ i % 2 ^ (2 * b) / 2 ^ b → i / 2 ^ (2 * b) * 2 ^ (2 * b) + j * 2 ^ b ≤ i
+  low-y j h = omega (arith, mul-le-mul-right (2 ^ b) h, div-mul-le-self (i % 2 ^ (2 * b)) (2 ^ b), div-add-mod' i (2 ^ (2 * b)))
+
+  low-z : (j : ℕ) → j ≤ i % 2 ^ b → i / 2 ^ (2 * b) * 2 ^ (2 * b) + i % 2 ^ (2 * b) / 2 ^ b * 2 ^ b + j ≤ i
+  low-z j h = omega (arith, div-add-mod' (i % 2 ^ (2 * b)) (2 ^ b), div-add-mod' i (2 ^ (2 * b)), same-mod)
+    where
+      same-mod : i % 2 ^ (2 * b) % 2 ^ b ≡ i % 2 ^ b
+      same-mod = ap (λ (k : ℕ). i % 2 ^ k % 2 ^ b) (omega arith) ∙ mod-mod-pow i b b
+
+pass-hidden : (bs : List ℕ) (k : Bool) (s : SlotOf bs) → isHidden s ≡ true → replaced bs k s ≡ k
+unfolding isHidden
+pass-hidden bs k (branch c) e = absurd (false≢true e)
+pass-hidden bs k (tile v) e = absurd (false≢true e)
+pass-hidden bs k (hidden v) e = refl
+
+along-hidden : (bs : List ℕ) (f : ℕ → SlotOf bs) (s : Bool) (k : ℕ) → ((j : ℕ) → j ≤ k → isHidden (f j) ≡ true) → along bs f s k ≡ s
+unfolding along
+along-hidden bs f s zero h = pass-hidden bs s (f 0) (h 0 (omega arith))
+along-hidden bs f s (suc k) h =
+    pass-hidden bs (along bs f s k) (f (suc k)) (h (suc k) (omega arith)) ∙ along-hidden bs f s k (λ j l. h j (omega arith))
+
+start-hidden : (bs : List ℕ) (k : ℕ) (n : ℕ → SlotOf bs) → ((j : ℕ) → j < k → isHidden (n j) ≡ true) → start bs k n ≡ false
+unfolding start isHidden
+start-hidden bs zero n h = refl
+start-hidden bs (suc k) n h =
+    go (n 0) (h 0 (omega arith)) (start-hidden bs k (λ i. n (suc i)) (λ j l. h (suc j) (omega arith)))
+  where
+    go : (s : SlotOf bs) → isHidden s ≡ true → {r : Bool} → r ≡ false → onSlot (λ c. firstSign bs c) negative (λ v. r) s ≡ false
+    go (branch c) e g = absurd (false≢true e)
+    go (tile v) e g = absurd (false≢true e)
+    go (hidden v) e g = g
+
+carried-hidden : (b : ℕ) (bs : List ℕ) (n : Node (b ∷ bs)) → ((j : ℕ) → j < size b → isHidden (n j) ≡ true) → (i : ℕ) → i < size b → carried b bs n i ≡ false
+unfolding carried signK signJ signI
+carried-hidden b bs n h i l =
+    along-hidden bs _ _ _ (λ j g. h _ (omega (arith, low-z b i j g)))
+    ∙ along-hidden bs _ _ _ (λ j g. h _ (omega (arith, low-y b i j g)))
+    ∙ along-hidden bs _ _ _ (λ j g. h _ (omega (arith, low-x b i j g)))
+    ∙ start-hidden bs (size b) n h
+
+-- an empty grid becomes all +far
+pub fillSigns-empty : (b : ℕ) (bs : List ℕ) (n : Node (b ∷ bs)) → ((j : ℕ) → j < size b → isHidden (n j) ≡ true) → (i : ℕ) → i < size b
+    → fillSigns (b ∷ bs) n i ≡ hidden far
+unfolding fillSigns filledRows isHidden farWith
+fillSigns-empty b bs n h i l = go (n i) (h i l) (carried-hidden b bs (λ j. fillSignsS bs (n j)) (λ j g. still (n j) (h j g)) (i % size b) (omega (arith, mod-le i (size b))))
+  where
+    still : (s : SlotOf bs) → isHidden s ≡ true → isHidden (fillSignsS bs s) ≡ true
+    still (branch c) e = absurd (false≢true e)
+    still (tile v) e = absurd (false≢true e)
+    still (hidden v) e = refl
+
+    go : (s : SlotOf bs) → isHidden s ≡ true → {k : Bool} → k ≡ false → written bs k (fillSignsS bs s) ≡ hidden far
+    go (branch c) e g = absurd (false≢true e)
+    go (tile v) e g = absurd (false≢true e)
+    go (hidden v) e g = ap (λ (k : Bool). hidden (farWith k)) g

@@ -4,7 +4,7 @@ use mathlib.Core.Bool.{Bool, true, false, cond, false≢true}
 use mathlib.Core.List.{List, [], _∷_}
 use mathlib.Core.Option.{Option, none, some}
 use mathlib.Core.Logic.{_⊎_, inl, inr}
-use Prim.Native.Nat.{ℕ, _<_}
+use Prim.Native.Nat.{ℕ}
 use native.Mathlib.Nat.{mod-eq-of-lt}
 use lib.Dec.{T}
 use Rattle.floats.specs.Value.{far, equal}
@@ -15,12 +15,11 @@ use Rattle.grid.proofs.Geometry.{slot-lt, Same, same-alike}
 use Rattle.grid.proofs.Places.{every-at, changed-at, changed-same}
 
 module _ (p : Point) where
-
   -- a slot of a node changed: what a lookup elsewhere sees
-  put-look : (b : ℕ) (bs : List ℕ) (n : Node (b ∷ bs)) (i : ℕ) (f : SlotOf bs → SlotOf bs) (q : Point)
+  changed-lookup : (b : ℕ) (bs : List ℕ) (n : Node (b ∷ bs)) (i : ℕ) (f : SlotOf bs → SlotOf bs) (q : Point)
       → (slotOf b bs q ≡ i → lookupS bs (f (n (slotOf b bs q))) q ≡ lookupS bs (n (slotOf b bs q)) q)
       → lookupS bs (changed (size b) i f n (slotOf b bs q)) q ≡ lookupS bs (n (slotOf b bs q)) q
-  put-look b bs n i f q h =
+  changed-lookup b bs n i f q h =
       changed-at (λ t. lookupS bs t q ≡ lookupS bs (n (slotOf b bs q)) q) (size b) i f n (slotOf b bs q) (λ e. h (sym (mod-eq-of-lt (slot-lt b bs q)) ∙ e)) (λ _. refl)
 
   -- what a lookup at p sees
@@ -29,11 +28,11 @@ module _ (p : Point) where
   unfolding lookup
   into b bs n f e = ap (λ t. lookupS bs t p) (changed-same (size b) (slotOf b bs p) f n (slot-lt b bs p)) ∙ e
 
-  hidden-look : (bs : List ℕ) (s : SlotOf bs) (q : Point) → isHidden s ≡ true → lookupS bs s q ≡ none
+  hidden-lookup : (bs : List ℕ) (s : SlotOf bs) (q : Point) → isHidden s ≡ true → lookupS bs s q ≡ none
   unfolding isHidden
-  hidden-look bs (branch c) q e = absurd (false≢true e)
-  hidden-look bs (tile v) q e = absurd (false≢true e)
-  hidden-look bs (hidden v) q e = refl
+  hidden-lookup bs (branch c) q e = absurd (false≢true e)
+  hidden-lookup bs (tile v) q e = absurd (false≢true e)
+  hidden-lookup bs (hidden v) q e = refl
 
   module _ (v : ℕ) where
     here-tile : (bs : List ℕ) (w : ℕ) → equal w v ≡ false → lookupS bs (insertS bs p v (tile w)) p ≡ some v
@@ -52,10 +51,10 @@ module _ (p : Point) where
         (lookupS bs s' p ≡ some v)
         ⊎ ((w : ℕ) × T (equal w v) × (lookupS bs s p ≡ some w) × (lookupS bs s' p ≡ some w) × (ProperS bs s → s' ≡ s))
 
-    pub ins-here : (bs : List ℕ) (s : SlotOf bs) → Here bs s (insertS bs p v s)
+    pub insertS-here : (bs : List ℕ) (s : SlotOf bs) → Here bs s (insertS bs p v s)
     unfolding insertS lookup
-    ins-here [] s = inl refl
-    ins-here (b ∷ bs) (branch n) = go (ins-here bs (n i))
+    insertS-here [] s = inl refl
+    insertS-here (b ∷ bs) (branch n) = go (insertS-here bs (n i))
       where
         i : ℕ
         i = slotOf b bs p
@@ -70,70 +69,58 @@ module _ (p : Point) where
         go : Here bs (n i) (f (n i)) → Here (b ∷ bs) (branch n) (branch (changed (size b) i f n))
         go (inl e) = inl (into b bs n f e)
         go (inr (w, t, l, l', e)) = inr (w, t, l, into b bs n f l', λ r. ap branch (fun-ext (back e r)))
-    ins-here (b ∷ bs) (tile w) = go (equal w v) refl
+    insertS-here (b ∷ bs) (tile w) = go (equal w v) refl
       where
         go : (k : Bool) → equal w v ≡ k → Here (b ∷ bs) (tile w) (insertS (b ∷ bs) p v (tile w))
         go true e = inr (w, subst T (sym e) tt, refl, rw e, λ _. rw e)
         go false e = inl (here-tile (b ∷ bs) w e)
-    ins-here (b ∷ bs) (hidden w) = inl (here-hidden (b ∷ bs) w)
+    insertS-here (b ∷ bs) (hidden w) = inl (here-hidden (b ∷ bs) w)
 
-    pub ins-there : (bs : List ℕ) (s : SlotOf bs) (q : Point) → (Same bs p q → ⊥) → lookupS bs (insertS bs p v s) q ≡ lookupS bs s q
+    pub insertS-there : (bs : List ℕ) (s : SlotOf bs) (q : Point) → (Same bs p q → ⊥) → lookupS bs (insertS bs p v s) q ≡ lookupS bs s q
     unfolding insertS lookup
-    ins-there [] s q h = absurd (h tt)
-    ins-there (b ∷ bs) (branch n) q h =
-        put-look b bs n (slotOf b bs p) (insertS bs p v) q
-        (λ e. ins-there bs (n (slotOf b bs q)) q (λ g. h (e, g)))
-    ins-there (b ∷ bs) (tile w) q h = go (ins-there bs (tile w) q) (equal w v)
+    insertS-there [] s q h = absurd (h tt)
+    insertS-there (b ∷ bs) (branch n) q h =
+        changed-lookup b bs n (slotOf b bs p) (insertS bs p v) q
+        (λ e. insertS-there bs (n (slotOf b bs q)) q (λ g. h (e, g)))
+    insertS-there (b ∷ bs) (tile w) q h = go (insertS-there bs (tile w) q) (equal w v)
       where
         go : ((Same bs p q → ⊥) → lookupS bs (insertS bs p v (tile w)) q ≡ some w) → (k : Bool) → lookupS (b ∷ bs) (cond k (tile w) (branch (changed (size b) (slotOf b bs p) (insertS bs p v) (λ _. tile w)))) q ≡ some w
         go ih true = refl
-        go ih false = put-look b bs (λ _. tile w) (slotOf b bs p) (insertS bs p v) q (λ e. ih (λ g. h (e, g)))
-    ins-there (b ∷ bs) (hidden w) q h =
-        put-look b bs (λ _. hidden far) (slotOf b bs p) (insertS bs p v) q (λ e. ins-there bs (hidden far) q (λ g. h (e, g)))
+        go ih false = changed-lookup b bs (λ _. tile w) (slotOf b bs p) (insertS bs p v) q (λ e. ih (λ g. h (e, g)))
+    insertS-there (b ∷ bs) (hidden w) q h =
+        changed-lookup b bs (λ _. hidden far) (slotOf b bs p) (insertS bs p v) q (λ e. insertS-there bs (hidden far) q (λ g. h (e, g)))
 
   -- a branch that is released showed nothing
-  pub keep-look : (b : ℕ) (bs : List ℕ) (n : Node (b ∷ bs)) (q : Point) → lookupS (b ∷ bs) (kept b bs n) q ≡ lookupS (b ∷ bs) (branch n) q
+  pub kept-lookup : (b : ℕ) (bs : List ℕ) (n : Node (b ∷ bs)) (q : Point) → lookupS (b ∷ bs) (kept b bs n) q ≡ lookupS (b ∷ bs) (branch n) q
   unfolding kept lookup
-  keep-look b bs n q = go (every isHidden (size b) n) refl
+  kept-lookup b bs n q = go (every isHidden (size b) n) refl
     where
       go : (k : Bool) → every isHidden (size b) n ≡ k
           → lookupS (b ∷ bs) (cond k (hidden far) (branch n)) q ≡ lookupS bs (n (slotOf b bs q)) q
-      go true e = sym (hidden-look bs (n (slotOf b bs q)) q (every-at isHidden (size b) n (slotOf b bs q) e (slot-lt b bs q)))
+      go true e = sym (hidden-lookup bs (n (slotOf b bs q)) q (every-at isHidden (size b) n (slotOf b bs q) e (slot-lt b bs q)))
       go false e = refl
 
-  -- released exactly where every slot is hidden
-  pub keep-cases : (b : ℕ) (bs : List ℕ) (n : Node (b ∷ bs))
-      → ((kept b bs n ≡ hidden far) × ((i : ℕ) → i < size b → isHidden (n i) ≡ true)) ⊎ ((kept b bs n ≡ branch n) × (every isHidden (size b) n ≡ false))
-  unfolding kept
-  keep-cases b bs n = go (every isHidden (size b) n) refl
-    where
-      go : (k : Bool) → every isHidden (size b) n ≡ k
-          → ((cond k (hidden far) (branch n) ≡ hidden far) × ((i : ℕ) → i < size b → isHidden (n i) ≡ true))
-          ⊎ ((cond k (hidden far) (branch n) ≡ branch n) × (every isHidden (size b) n ≡ false))
-      go true e = inl (refl, λ i h. every-at isHidden (size b) n i e h)
-      go false e = inr (refl, e)
-
-  pub rem-here : (bs : List ℕ) (s : SlotOf bs) → lookupS bs (removeS bs p s) p ≡ none
+  pub removeS-here : (bs : List ℕ) (s : SlotOf bs) → lookupS bs (removeS bs p s) p ≡ none
   unfolding removeS
-  rem-here [] (branch c) = absurd c
-  rem-here [] (tile w) = refl
-  rem-here [] (hidden w) = refl
-  rem-here (b ∷ bs) (hidden w) = refl
-  rem-here (b ∷ bs) (tile w) = into b bs (λ _. tile w) (removeS bs p) (rem-here bs (tile w))
-  rem-here (b ∷ bs) (branch n) =
-      keep-look b bs (changed (size b) (slotOf b bs p) (removeS bs p) n) p
-      ∙ into b bs n (removeS bs p) (rem-here bs (n (slotOf b bs p)))
+  removeS-here [] (branch c) = absurd c
+  removeS-here [] (tile w) = refl
+  removeS-here [] (hidden w) = refl
+  removeS-here (b ∷ bs) (hidden w) = refl
+  removeS-here (b ∷ bs) (tile w) = into b bs (λ _. tile w) (removeS bs p) (removeS-here bs (tile w))
+  removeS-here (b ∷ bs) (branch n) =
+      kept-lookup b bs (changed (size b) (slotOf b bs p) (removeS bs p) n) p
+      ∙ into b bs n (removeS bs p) (removeS-here bs (n (slotOf b bs p)))
 
-  pub rem-there : (bs : List ℕ) (s : SlotOf bs) (q : Point) → (Same bs p q → ⊥) → lookupS bs (removeS bs p s) q ≡ lookupS bs s q
+  pub removeS-there : (bs : List ℕ) (s : SlotOf bs) (q : Point) → (Same bs p q → ⊥) → lookupS bs (removeS bs p s) q ≡ lookupS bs s q
   unfolding removeS lookup
-  rem-there [] s q h = absurd (h tt)
-  rem-there (b ∷ bs) (hidden w) q h = refl
-  rem-there (b ∷ bs) (tile w) q h =
-      put-look b bs (λ _. tile w) (slotOf b bs p) (removeS bs p) q (λ e. rem-there bs (tile w) q (λ g. h (e, g)))
-  rem-there (b ∷ bs) (branch n) q h =
-      keep-look b bs (changed (size b) (slotOf b bs p) (removeS bs p) n) q
-      ∙ put-look b bs n (slotOf b bs p) (removeS bs p) q
-      (λ e. rem-there bs (n (slotOf b bs q)) q (λ g. h (e, g)))
+  removeS-there [] s q h = absurd (h tt)
+  removeS-there (b ∷ bs) (hidden w) q h = refl
+  removeS-there (b ∷ bs) (tile w) q h =
+      changed-lookup b bs (λ _. tile w) (slotOf b bs p) (removeS bs p) q (λ e. removeS-there bs (tile w) q (λ g. h (e, g)))
+  removeS-there (b ∷ bs) (branch n) q h =
+      kept-lookup b bs (changed (size b) (slotOf b bs p) (removeS bs p) n) q
+      ∙ changed-lookup b bs n (slotOf b bs p) (removeS bs p) q
+      (λ e. removeS-there bs (n (slotOf b bs q)) q (λ g. h (e, g)))
 
   -- ---- the rules as document 01 has them, of a whole grid
 
@@ -146,7 +133,7 @@ module _ (p : Point) where
 
   pub insert-here : (v : ℕ) (b : ℕ) (bs : List ℕ) (n : Node (b ∷ bs)) → InsertHere v b bs n
   unfolding insert insertS lookup
-  insert-here v b bs n = go (ins-here v (b ∷ bs) (branch n))
+  insert-here v b bs n = go (insertS-here v (b ∷ bs) (branch n))
     where
       go : Here v (b ∷ bs) (branch n) (branch (insert (b ∷ bs) p v n)) → InsertHere v b bs n
       go (inl e) = inl e
@@ -156,15 +143,15 @@ module _ (p : Point) where
   pub insert-there : (v : ℕ) (b : ℕ) (bs : List ℕ) (n : Node (b ∷ bs)) (q : Point) → (Alike (total (b ∷ bs)) q p → ⊥)
       → lookup (b ∷ bs) (insert (b ∷ bs) p v n) q ≡ lookup (b ∷ bs) n q
   unfolding insert insertS
-  insert-there v b bs n q h = ins-there v (b ∷ bs) (branch n) q (λ g. h (same-alike (b ∷ bs) p q g))
+  insert-there v b bs n q h = insertS-there v (b ∷ bs) (branch n) q (λ g. h (same-alike (b ∷ bs) p q g))
 
   pub remove-here : (b : ℕ) (bs : List ℕ) (n : Node (b ∷ bs)) → lookup (b ∷ bs) (remove (b ∷ bs) p n) p ≡ none
   unfolding remove
-  remove-here b bs n = into b bs n (removeS bs p) (rem-here bs (n (slotOf b bs p)))
+  remove-here b bs n = into b bs n (removeS bs p) (removeS-here bs (n (slotOf b bs p)))
 
   pub remove-there : (b : ℕ) (bs : List ℕ) (n : Node (b ∷ bs)) (q : Point) → (Alike (total (b ∷ bs)) q p → ⊥)
       → lookup (b ∷ bs) (remove (b ∷ bs) p n) q ≡ lookup (b ∷ bs) n q
   unfolding remove lookup
   remove-there b bs n q h =
-      put-look b bs n (slotOf b bs p) (removeS bs p) q
-      (λ e. rem-there bs (n (slotOf b bs q)) q (λ g. h (same-alike (b ∷ bs) p q (e, g))))
+      changed-lookup b bs n (slotOf b bs p) (removeS bs p) q
+      (λ e. removeS-there bs (n (slotOf b bs q)) q (λ g. h (same-alike (b ∷ bs) p q (e, g))))

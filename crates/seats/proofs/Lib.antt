@@ -1,4 +1,5 @@
 -- The theorems on the calls.
+pub mod Samples
 pub mod Names
 pub mod Refusal
 pub mod Laws

@@ -56,13 +56,31 @@ first-same (row ∷ rows) c r r' h = ap₂ (λ x o. cond x (some (row .0)) o) (h
 
 pub refusal-agree : (c : Call) (r r' : Reads) → Agree c r r' → refusal r c ≡ refusal r' c
 refusal-agree c r r' h =
-    first-same order c r r'
-    (ap not (h .fit), (refl, (refl, (refl,
-    (ap₂ (λ x y. onKind x y false (asks c .kind)) (ap not (h .path)) (ap not (h .sound)),
-    (ap (_&&_ (asks c .filled)) (any-same _ _ (names c) (λ i a. ap not (h .filled i a))),
-    (ap (_&&_ (asks c .solid)) (any-same _ _ (names c) (h .hollow)),
-    (ap (_&&_ (asks c .onto)) (any-same _ _ (rest (names c)) (λ i a. ap not (h .empty i (among-rest i (names c) a)))),
-    (ap₂ (λ x y. asks c .takes && not (leb x y)) (h .need) (h .free), tt)))))))))
+    first-same order c r r' (
+      ap not (h .fit),
+      (
+        refl,
+        (
+          refl,
+          (
+            refl,
+            (
+              ap₂ (λ x y. onKind x y false (asks c .kind)) (ap not (h .path)) (ap not (h .sound)),
+              (
+                ap (_&&_ (asks c .filled)) (any-same _ _ (names c) (λ i a. ap not (h .filled i a))),
+                (
+                  ap (_&&_ (asks c .solid)) (any-same _ _ (names c) (h .hollow)),
+                  (
+                    ap (_&&_ (asks c .onto)) (any-same _ _ (rest (names c)) (λ i a. ap not (h .empty i (among-rest i (names c) a)))),
+                    (ap₂ (λ x y. asks c .takes && not (leb x y)) (h .need) (h .free), tt),
+                  ),
+                ),
+              ),
+            ),
+          ),
+        ),
+      ),
+    )
 
 -- a seat above 7 is refused before anything of it is read
 pub refusal-above : (c : Call) (r r' : Reads) → r .fit ≡ r' .fit → seatAbove r c ≡ true → refusal r c ≡ refusal r' c

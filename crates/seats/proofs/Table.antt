@@ -2,10 +2,11 @@
 use mathlib.Core.Path.{_≡_, refl}
 use mathlib.Core.List.{List, [], _∷_}
 use mathlib.Core.Option.{some}
-use Prim.Native.Nat.{ℕ, suc}
+use Prim.Native.Nat.{ℕ, suc, _^_}
 use lib.IntN.{ℤ, pos, negsuc}
 use lib.Ieee.{eq, ofBits}
 use Rattle.floats.specs.Value.{isFinite, equal}
+use Rattle.bitset.specs.Set.{weight}
 use Rattle.grid.specs.Geometry.{Point, masked, total, part, slotOf}
 use Rattle.grid.specs.Node.{isHidden, size, changed, put, every, sum}
 use Rattle.grid.specs.Voxel.{lookup, insertS, insert, kept, removeS, remove, needInsertS, needRemoveS}
@@ -53,6 +54,8 @@ pub tabled :
     × (slots (at (pos 5) (negsuc 2) (pos 70)) ≡ 60 ∷ 29 ∷ 22 ∷ [])
     × (slots (at (pos 128) (pos 0) (pos 0)) ≡ 0 ∷ 0 ∷ 0 ∷ [])
     × (slots (at (pos 0) (pos 0) (pos 0)) ≡ 0 ∷ 0 ∷ 0 ∷ [])
+    -- T4
+    × (weight 22 ≡ 2 ^ 41)
     -- T5, T6, T7
     × (answers (pool 1) (insert3 ∷ []) ≡ refused 9 ∷ [])
     × (answers (pool 2) (insert3 ∷ Count ∷ One 0 (Remove somewhere) ∷ Count ∷ []) ≡ done ∷ freeCells 0 ∷ done ∷ freeCells 2 ∷ [])
@@ -63,4 +66,4 @@ pub tabled :
     -- T11
     × (answers (pool 2) (One 8 (Insert somewhere nan) ∷ []) ≡ refused 2 ∷ [])
 unfolding answers step play served act needOne free used reached reach cells sum size prepared fresh clear fill lookup needInsertS needRemoveS insert insertS remove removeS kept every isHidden put changed slotOf total part masked isFinite equal eq ofBits
-tabled = (refl, refl, refl, refl, refl, refl, refl, refl, refl)
+tabled = (refl, refl, refl, refl, refl, refl, refl, refl, refl, refl)

@@ -1,0 +1,50 @@
+-- `bitset::or` meets its contract. The loop has the bits of the operation in the words that it has passed. Assumes nothing.
+use mathlib.Core.Path.{refl}
+use mathlib.Core.Bool.{_||_}
+use Prim.Native.Nat.{_-_}
+use lib.ListN.{length}
+use Rattle.bitset.specs.Set.{bitOf}
+use Rattle.bitset.proofs.Words.{or-acts}
+use Rattle.bitset.proofs.Loops.{Front, front-none, op-more, op-all}
+use borrow.Author.Needs.{needs}
+use native.Mathlib.Omega.{arith}
+use Rattle.bitset.proofs.or.Statement.{statement}
+use Rattle.bitset.proofs.or.Tie as tie
+
+abbrev Inv-loop : tie.InvT-loop
+Inv-loop a b out₀ i₀ out i = Front (λ k. bitOf a k || bitOf b k) out₀ out i
+
+abbrev μ-loop : tie.MeasureT-loop
+μ-loop a b out₀ i₀ out i = length out₀ - i
+
+loop-holds : tie.Need-loop-holds Inv-loop μ-loop
+loop-holds c = front-none _ (c .args .out .now)
+
+loop-again : tie.Need-loop-again Inv-loop μ-loop
+loop-again c =
+    let s = c .before .before .before .before in
+    op-more or-acts (s .args .a .now) (s .args .b .now) (c .before .before .before .loop .inv) (omega arith)
+
+returns : tie.Need-returns Inv-loop μ-loop
+returns c =
+    let s = c .before .before in
+    op-all or-acts (s .args .a .now) (s .args .b .now) (c .before .loop .inv) (c .loop-test .left) refl (s .pre .0) (s .pre .1)
+
+pub or-spec : {M : Type 1} → statement M
+or-spec =
+    tie.close
+    (tie.spec
+    Inv-loop
+    μ-loop
+    loop-holds
+    (λ c. search needs)
+    (λ c. search needs)
+    (λ c. search needs)
+    (λ c. search needs)
+    (λ c. search needs)
+    (λ c. search needs)
+    (λ c. search needs)
+    (λ c. search needs)
+    loop-again
+    (λ c. search needs)
+    returns)

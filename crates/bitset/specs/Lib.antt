@@ -1,0 +1,3 @@
+-- The definitions that the contracts of `bitset` cite.
+pub mod Set
+pub mod Answers
