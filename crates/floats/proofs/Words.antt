@@ -1,10 +1,12 @@
 -- Words as numbers, with no float: the sign bit and the rest of a word, its negation, and what least and most keep. Assumes nothing.
-use mathlib.Core.Path.{_≡_, refl, sym, _∙_}
+use mathlib.Core.Path.{_≡_, refl, sym, ap, _∙_}
 use mathlib.Core.Logic.{_⊎_, inl, inr}
 use mathlib.Core.Bool.{Bool, true, false, cond}
-use Prim.Native.Nat.{ℕ, _+_, _-_, _/_, _%_, _<_, _≤_}
+use Prim.Native.Nat.{ℕ, _+_, _-_, _*_, _/_, _%_, _<_, _≤_}
 use native.Mathlib.Omega.{arith}
 use lib.Dec.{eqb, leb}
+use lib.Pow.{pow-pos}
+use lib.Bits.{bitXor, xor-block, xor-zero-r}
 use borrow.Author.Tests.{eqb-true, eqb-false, le-leb, lt-leb}
 use Rattle.floats.specs.Value.{negative, negated, before, least, most}
 
@@ -45,6 +47,16 @@ pub negated-twice : (w : ℕ) → negated (negated w) ≡ w
 negated-twice w = negated-has (λ n. negated n ≡ w) w
     (λ h. negated-has (λ n. n ≡ w) (w - 0x8000_0000) (λ k. omega arith) (λ k. omega arith))
     (λ h. negated-has (λ n. n ≡ w) (w + 0x8000_0000) (λ k. omega arith) (λ k. omega arith))
+
+flipped : (a r : ℕ) → r < 0x8000_0000 → bitXor (a * 0x8000_0000 + r) 0x8000_0000 ≡ bitXor a 1 * 0x8000_0000 + r
+flipped a r l = xor-block 31 a 1 r 0 l (pow-pos 31) ∙ ap (λ (n : ℕ). bitXor a 1 * 0x8000_0000 + n) (xor-zero-r r)
+
+pub xor-negated : (w : ℕ) → w < 0x1_0000_0000 → bitXor w 0x8000_0000 ≡ negated w
+xor-negated w l = negated-has (λ n. bitXor w 0x8000_0000 ≡ n) w
+    (λ h. let e : w ≡ 1 * 0x8000_0000 + (w - 0x8000_0000) = omega arith in
+    omega (arith, ap (λ (n : ℕ). bitXor n 0x8000_0000) e, flipped 1 (w - 0x8000_0000) (omega arith)))
+    (λ h. let e : w ≡ 0 * 0x8000_0000 + w = omega arith in
+    omega (arith, ap (λ (n : ℕ). bitXor n 0x8000_0000) e, flipped 0 w (omega arith)))
 
 -- ---- what both of two words have, their least and most have
 pick : (P : ℕ → Type 0) (b : Bool) {v w : ℕ} → P v → P w → P (cond b v w)

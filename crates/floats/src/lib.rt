@@ -46,11 +46,7 @@ pub fn negative_word(w: u32) -> bool
 pub fn negated_word(w: u32) -> u32
     ensures { λ r. ⌜ r ≡ negated w ⌝ }
 {
-    if negative_word(w) {
-        w - 0x8000_0000
-    } else {
-        w + 0x8000_0000
-    }
+    w ^ 0x8000_0000
 }
 
 // The largest finite value, with a sign.
@@ -75,7 +71,7 @@ fn chosen(first: bool, x: f32, y: f32) -> f32
     if first { x } else { y }
 }
 
-// The two choices differ only where the words are the two zeros, and then joining their bits gives -0. There is no branch, so a loop over words becomes two vector minima and an or.
+// The two choices differ only where the words are the two zeros, and then joining their bits gives -0. There is no branch, so a loop over words vectorises.
 pub fn least_word(v: u32, w: u32) -> u32
     requires { ⌜ isFinite v ≡ true ⌝ }
     requires { ⌜ isFinite w ≡ true ⌝ }

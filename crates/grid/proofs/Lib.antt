@@ -1,5 +1,5 @@
 -- The theorems on one grid.
-pub mod Samples
+pub mod Cases
 pub mod Places
 pub mod Geometry
 pub mod Voxel

@@ -1,5 +1,5 @@
 -- The theorems on the calls.
-pub mod Samples
+pub mod Cases
 pub mod Names
 pub mod Refusal
 pub mod Laws

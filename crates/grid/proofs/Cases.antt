@@ -2,15 +2,18 @@
 use mathlib.Core.Path.{_≡_, refl}
 use mathlib.Core.Bool.{true, false}
 use mathlib.Core.List.{[], _∷_}
+use mathlib.Core.Option.{some}
 use Prim.Native.Nat.{ℕ}
 use lib.IntN.{pos, negsuc}
+use lib.Dec.{eqb}
 use lib.Ieee.{lt, ofBits}
 use Rattle.floats.specs.Value.{negative, negated, far, farWith, before, least, most}
 use Rattle.grid.specs.Combine.{union, subtract, intersect, underB, underA, joinedVoxels, combineS}
-use Rattle.grid.specs.Geometry.{masked}
-use Rattle.grid.specs.Node.{branch, tile, hidden, size, Node, SlotOf, changed}
+use Rattle.grid.specs.Geometry.{masked, total, part, slotOf}
+use Rattle.grid.specs.Node.{branch, tile, hidden, isHidden, size, Node, SlotOf, changed, every}
 use Rattle.grid.specs.SignFill.{firstSign, lastSign, along, start, signI, signJ, signK, carried, filledRows, fillSigns}
-use Rattle.grid.specs.Whole.{flip}
+use Rattle.grid.specs.Voxel.{lookup, lookupS, kept}
+use Rattle.grid.specs.Whole.{pruneS, cutS, flip}
 
 pub coordinates :
     -- "-1 is 127 and 128 is 0"; -3 is 125, and its low 4 bits are 13
@@ -47,6 +50,17 @@ pub sign-fill :
     × (fillSigns (2 ∷ 2 ∷ []) streak 0 ≡ hidden (farWith true))
 unfolding fillSigns filledRows carried signK signJ signI along start firstSign lastSign size changed negative
 sign-fill = (refl, refl, refl, refl, refl, refl)
+
+pub whole-grid :
+    -- flip negates hidden values too
+    (flip (2 ∷ []) pair 1 ≡ hidden 0x8000_0000)
+    × (flip (2 ∷ []) pair 3 ≡ tile plus1)
+    -- a leaf of which nothing is left is released, and its slot holds +far; what is cut in it keeps its value
+    × (cutS (λ v. true) (2 ∷ []) (branch pair) ≡ hidden far)
+    × (lookupS (2 ∷ []) (cutS (eqb plus1) (2 ∷ []) (branch pair)) (record { x = pos 0; y = pos 0; z = pos 3 }) ≡ some minus1)
+    × (pruneS (2 ∷ []) (branch (λ _. hidden 0)) ≡ hidden far)
+unfolding flip cutS pruneS kept every isHidden size changed negated negative lookup slotOf part total masked
+whole-grid = (refl, refl, refl, refl, refl)
 
 -- slots of a and b above the leaves
 abbrev pub inside : SlotOf (2 ∷ [])
