@@ -1,0 +1,5 @@
+//! The Rust that is ported, built unchanged beside stand-ins, and the code that compares our library with it.
+
+pub mod bits;
+
+include!(concat!(env!("OUT_DIR"), "/source/lib.rs"));

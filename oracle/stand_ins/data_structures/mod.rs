@@ -1,0 +1,2 @@
+// Stands for data_structures/mod.rs.
+pub mod bitset;
