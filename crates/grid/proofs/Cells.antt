@@ -83,27 +83,27 @@ module _ (p : Point) (v : ℕ) where
 
   -- as document 01 counts, of three levels: 2 if the top slot is no branch, 1 if the middle slot is none, else 0; 0 if the tile is equal
   module _ (b₂ b₁ : ℕ) where
-    two-tile : (w : ℕ) → equal w v ≡ false → needInsertS (b₂ ∷ b₁ ∷ []) p v (tile w) ≡ 2
+    pub two-tile : (w : ℕ) → equal w v ≡ false → needInsertS (b₂ ∷ b₁ ∷ []) p v (tile w) ≡ 2
     unfolding needInsertS
     two-tile w e = rw e
 
-    zero-tile : (w : ℕ) → equal w v ≡ true → needInsertS (b₂ ∷ b₁ ∷ []) p v (tile w) ≡ 0
+    pub zero-tile : (w : ℕ) → equal w v ≡ true → needInsertS (b₂ ∷ b₁ ∷ []) p v (tile w) ≡ 0
     unfolding needInsertS
     zero-tile w e = rw e
 
-    two-hidden : (w : ℕ) → needInsertS (b₂ ∷ b₁ ∷ []) p v (hidden w) ≡ 2
+    pub two-hidden : (w : ℕ) → needInsertS (b₂ ∷ b₁ ∷ []) p v (hidden w) ≡ 2
     unfolding needInsertS
     two-hidden w = refl
 
-    one-tile : (m : Node (b₂ ∷ b₁ ∷ [])) (w : ℕ) → m (slotOf b₂ (b₁ ∷ []) p) ≡ tile w → equal w v ≡ false → needInsertS (b₂ ∷ b₁ ∷ []) p v (branch m) ≡ 1
+    pub one-tile : (m : Node (b₂ ∷ b₁ ∷ [])) (w : ℕ) → m (slotOf b₂ (b₁ ∷ []) p) ≡ tile w → equal w v ≡ false → needInsertS (b₂ ∷ b₁ ∷ []) p v (branch m) ≡ 1
     unfolding needInsertS
     one-tile m w h e = rw h (rw e)
 
-    one-hidden : (m : Node (b₂ ∷ b₁ ∷ [])) (w : ℕ) → m (slotOf b₂ (b₁ ∷ []) p) ≡ hidden w → needInsertS (b₂ ∷ b₁ ∷ []) p v (branch m) ≡ 1
+    pub one-hidden : (m : Node (b₂ ∷ b₁ ∷ [])) (w : ℕ) → m (slotOf b₂ (b₁ ∷ []) p) ≡ hidden w → needInsertS (b₂ ∷ b₁ ∷ []) p v (branch m) ≡ 1
     unfolding needInsertS
     one-hidden m w h = rw h
 
-    zero-leaf : (m : Node (b₂ ∷ b₁ ∷ [])) (l : Node (b₁ ∷ [])) → m (slotOf b₂ (b₁ ∷ []) p) ≡ branch l → needInsertS (b₂ ∷ b₁ ∷ []) p v (branch m) ≡ 0
+    pub zero-leaf : (m : Node (b₂ ∷ b₁ ∷ [])) (l : Node (b₁ ∷ [])) → m (slotOf b₂ (b₁ ∷ []) p) ≡ branch l → needInsertS (b₂ ∷ b₁ ∷ []) p v (branch m) ≡ 0
     unfolding needInsertS
     zero-leaf m l h = rw h
 
