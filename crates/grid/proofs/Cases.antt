@@ -36,6 +36,14 @@ pair = changed 64 0 (λ _. tile plus1) (changed 64 3 (λ _. tile minus1) (λ _. 
 abbrev pub streak : Node (2 ∷ 2 ∷ [])
 streak = changed 64 63 (λ _. branch (changed 64 0 (λ _. tile minus1) (changed 64 63 (λ _. tile plus1) (λ _. hidden 0)))) (λ _. hidden 0)
 
+-- a leaf that begins with 1 and ends with -1, in the first slot of a middle node
+abbrev pub edge : Node (2 ∷ 2 ∷ [])
+edge = changed 64 0 (λ _. branch (changed 64 0 (λ _. tile plus1) (changed 64 63 (λ _. tile minus1) (λ _. hidden 0)))) (λ _. hidden 0)
+
+-- a leaf with (0,0,0) 1, (0,1,0) -1 and (2,0,0) -1
+abbrev pub rows : Node (2 ∷ [])
+rows = changed 64 0 (λ _. tile plus1) (changed 64 4 (λ _. tile minus1) (changed 64 32 (λ _. tile minus1) (λ _. hidden 0)))
+
 pub sign-fill :
     -- the hidden slots of a row take the sign before them: slot 2, (0,0,2), is + and would be - behind slot 3
     (fillSigns (2 ∷ []) pair 2 ≡ hidden (farWith false))
@@ -48,8 +56,14 @@ pub sign-fill :
     × (lastSign (2 ∷ 2 ∷ []) streak ≡ true)
     -- the start is the first sign of the first branch
     × (fillSigns (2 ∷ 2 ∷ []) streak 0 ≡ hidden (farWith true))
+    -- a branch replaces with its last sign, not its first
+    × (fillSigns (2 ∷ 2 ∷ []) edge 1 ≡ hidden (farWith true))
+    -- j goes on from (0,1,0) to (0,2,0); i does not take it to (1,0,0), and goes on from (2,0,0) to (3,0,0)
+    × (fillSigns (2 ∷ []) rows 8 ≡ hidden (farWith true))
+    × (fillSigns (2 ∷ []) rows 16 ≡ hidden (farWith false))
+    × (fillSigns (2 ∷ []) rows 48 ≡ hidden (farWith true))
 unfolding fillSigns filledRows carried signK signJ signI along start firstSign lastSign size changed negative
-sign-fill = (refl, refl, refl, refl, refl, refl)
+sign-fill = (refl, refl, refl, refl, refl, refl, refl, refl, refl, refl)
 
 pub whole-grid :
     -- flip negates hidden values too
@@ -57,10 +71,11 @@ pub whole-grid :
     × (flip (2 ∷ []) pair 3 ≡ tile plus1)
     -- a leaf of which nothing is left is released, and its slot holds +far; what is cut in it keeps its value
     × (cutS (λ v. true) (2 ∷ []) (branch pair) ≡ hidden far)
+    × (cutS (eqb plus1) [] (tile plus1) ≡ hidden plus1)
     × (lookupS (2 ∷ []) (cutS (eqb plus1) (2 ∷ []) (branch pair)) (record { x = pos 0; y = pos 0; z = pos 3 }) ≡ some minus1)
     × (pruneS (2 ∷ []) (branch (λ _. hidden 0)) ≡ hidden far)
 unfolding flip cutS pruneS kept every isHidden size changed negated negative lookup slotOf part total masked
-whole-grid = (refl, refl, refl, refl, refl)
+whole-grid = (refl, refl, refl, refl, refl, refl)
 
 -- slots of a and b above the leaves
 abbrev pub inside : SlotOf (2 ∷ [])
@@ -85,10 +100,11 @@ pub combining :
     × (combineS subtract (2 ∷ []) inside (branch pair) ≡ branch (flip (2 ∷ []) pair))
     -- two leaves: minima and maxima, masks joined
     × (combineS union [] (tile plus1) (hidden minus1) ≡ tile minus1)
+    × (combineS union [] (hidden plus1) (tile minus1) ≡ tile minus1)
     × (combineS subtract [] (tile minus1) (tile minus1) ≡ tile plus1)
     × (combineS intersect [] (hidden plus1) (hidden minus1) ≡ hidden plus1)
     -- -0 is below +0
     × (combineS union [] (tile 0) (tile 0x8000_0000) ≡ tile 0x8000_0000)
     × (combineS intersect [] (tile 0x8000_0000) (tile 0) ≡ tile 0)
 unfolding combineS joinedVoxels underA underB negative negated least most before lt ofBits
-combining = (refl, refl, refl, refl, refl, refl, refl, refl, refl, refl, refl, refl)
+combining = (refl, refl, refl, refl, refl, refl, refl, refl, refl, refl, refl, refl, refl)

@@ -4,14 +4,15 @@ use mathlib.Core.Bool.{Bool, true, false, not, cond, false≢true}
 use mathlib.Core.List.{List, []}
 use mathlib.Core.Logic.{_⊎_, inl, inr}
 use mathlib.Core.Option.{Option, none, some}
-use Prim.Native.Nat.{ℕ, _<_}
+use Prim.Native.Nat.{ℕ, _+_, _<_}
+use native.Mathlib.Omega.{arith}
 use lib.Dec.{leb}
 use Rattle.grid.specs.Node.{put}
 use Rattle.grid.proofs.Places.{put-at}
 use Rattle.seats.specs.Call.{Lookup, Sign, Remove, Insert, Fill, Cut, Clear, Prune, Flip, FillSigns, IsEmpty, Copy, Combine, Call, One, Two, Prepare, Count, names, Answer, refused, found, negativeIs, emptyIs, freeCells, done}
 use Rattle.seats.specs.Promise.{among, Agree, Verdict, refuse, give, turn, loose, Accepted, Memory, grants, refuseOr, verdict, Keeps, Promise}
 use Rattle.seats.specs.Refusal.{any, refusal}
-use Rattle.seats.specs.Seat.{Seat, State, prepared, free}
+use Rattle.seats.specs.Seat.{Seat, State, prepared, used, free}
 use Rattle.seats.specs.Step.{act, both, readsOf, served, unless, play, step}
 use Rattle.seats.proofs.Names.{not-above, among-head, any-none}
 use Rattle.seats.proofs.Refusal.{below-8, refusal-agree, refusal-above}
@@ -109,10 +110,21 @@ module _ (b : ℕ) (bs : List ℕ) (𝓜 : Memory b bs) where
   unfolding f k
   verdict-meets c m s = met m s c
 
+  -- a call that no row refuses is a step that is served
+  pub served-step : (c : Call) (m : 𝓜 .Mem) → 𝓜 .Sound m → refusal (𝓜 .reads m) c ≡ none
+      → step b bs (𝓜 .state m) c .1 ≡ record { seat = served b bs c (𝓜 .state m .seat) (free b bs (𝓜 .state m)) .1; all = 𝓜 .state m .all }
+  unfolding f k step play
+  served-step c m s e = rw (sym (same-refusal m s c) ∙ e) refl
+
   -- the free cells that a sound pool records
   pub sound-free : (m : 𝓜 .Mem) → 𝓜 .Sound m → 𝓜 .reads m .free ≡ free b bs (𝓜 .state m)
   unfolding f k
   sound-free m s = base m s .free
+
+  -- the pool equation of every sound pool, however it came to be
+  pub sound-cells : (m : 𝓜 .Mem) → 𝓜 .Sound m → 𝓜 .reads m .free + used b bs (𝓜 .state m .seat) ≡ 𝓜 .size (𝓜 .lens m)
+  unfolding free
+  sound-cells m s = omega (arith, sound-free m s, 𝓜 .within m s, 𝓜 .all-is m)
 
   -- a sound pool never falls under the exception
   pub sound-not-loose : (c : Call) (m : 𝓜 .Mem) → 𝓜 .Sound m → verdict b bs 𝓜 c m ≡ loose → ⊥

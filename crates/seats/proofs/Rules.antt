@@ -1,6 +1,6 @@
 -- The rules in calls on a sound pool: what lookups answer after an accepted call. Assumes nothing.
 use mathlib.Core.Path.{_≡_, refl, sym, _∙_, ap, subst}
-use mathlib.Core.Bool.{false}
+use mathlib.Core.Bool.{true, false}
 use mathlib.Core.List.{List, _∷_}
 use mathlib.Core.Logic.{_⊎_, inl, inr}
 use mathlib.Core.Option.{none, some}
@@ -10,14 +10,17 @@ use lib.Arith.{lt→nleb}
 use lib.Ieee.Bits.{is-false}
 use Rattle.grid.proofs.Voxel as voxel
 use Rattle.floats.specs.Value.{equal}
-use Rattle.grid.specs.Geometry.{Point, total, Alike}
-use Rattle.grid.specs.Voxel.{lookup, insert}
-use Rattle.grid.proofs.Places.{put-same}
+use Rattle.grid.specs.Geometry.{Point, total, slotOf, Alike}
+use Rattle.grid.specs.Combine.{Operation, combinedSign, combineS}
+use Rattle.grid.specs.Voxel.{lookup, signAt, insert}
+use Rattle.grid.proofs.CombinedSign.{combined-sign}
+use Rattle.grid.specs.Node.{Node, put}
+use Rattle.grid.proofs.Places.{put-at, put-same}
 use Rattle.grid.proofs.Voxel.{InsertHere}
-use Rattle.seats.specs.Call.{Act, Lookup, Remove, Insert, Call, One, Answer, found, done}
+use Rattle.seats.specs.Call.{Act, Lookup, Sign, Remove, Insert, Pair, Copy, Combine, Call, One, Two, Answer, found, negativeIs, done}
 use Rattle.seats.specs.Promise.{Accepted, Memory, Promise}
 use Rattle.seats.specs.Seat.{Seat, State, free}
-use Rattle.seats.specs.Step.{act, served, play, step}
+use Rattle.seats.specs.Step.{act, both, served, play, step}
 use Rattle.seats.proofs.Laws.{play-at}
 use Rattle.seats.proofs.Promise.{sim}
 
@@ -35,6 +38,17 @@ module _ (b : ℕ) (bs : List ℕ) where
   seat-after : (i : ℕ) (x : Act) (st : State b bs) → Accepted (step b bs st (One i x) .0) → step b bs st (One i x) .1 .seat i ≡ act b bs x (st .seat i) .1
   unfolding step served
   seat-after i x st h = ap (λ o. o .1 i) (accepted (One i x) (st .seat) (free b bs st) h) ∙ put-same (st .seat) i (act b bs x (st .seat i) .1)
+
+  -- the seats after an accepted call on two
+  seats-after : (x : Pair) (i j : ℕ) (st : State b bs) → (j ≡ i → ⊥) → Accepted (step b bs st (Two x i j) .0)
+      → let o = both b bs x (st .seat i) (st .seat j) in (step b bs st (Two x i j) .1 .seat i ≡ o .1) × (step b bs st (Two x i j) .1 .seat j ≡ o .2)
+  unfolding step served
+  seats-after x i j st d h =
+      let o = both b bs x (st .seat i) (st .seat j) in
+      let e = accepted (Two x i j) (st .seat) (free b bs st) h in (
+        ap (λ o. o .1 i) e ∙ put-at (λ t. t ≡ o .1) (put (st .seat) i (o .1)) j (o .2) i (λ g. absurd (d (sym g))) (λ _. put-same (st .seat) i (o .1)),
+        ap (λ o. o .1 j) e ∙ put-same (put (st .seat) i (o .1)) j (o .2),
+      )
 
   module _ (𝓜 : Memory b bs) (i : ℕ) (l : i < 8) (m m₁ : 𝓜 .Mem) (s : 𝓜 .Sound m) where
     -- a lookup on a sound pool
@@ -88,3 +102,36 @@ module _ (b : ℕ) (bs : List ℕ) where
           lookup-after (Remove p) done done-it tt q r' m'' h'
           ∙ ap found (voxel.remove-there p b bs (𝓜 .state m .seat i .grid) q ne)
           ∙ sym (lookup-answer q r m' h)
+
+  -- a sign is not refused on a sound pool whose seat is filled
+  pub sign-call : (i : ℕ) → i < 8 → (p : Point) (st : State b bs) → st .seat i .filled ≡ true → step b bs st (One i (Sign p)) .0 ≡ negativeIs (signAt (b ∷ bs) (st .seat i .grid) p)
+  unfolding step play served act
+  sign-call i l p st e = rw (is-false (leb 8 i) (lt→nleb 8 i l)) (rw e refl)
+
+  combined-grid : (o : Operation) (n n' : Node (b ∷ bs)) (p : Point)
+      → signAt (b ∷ bs) (λ i. combineS o bs (n i) (n' i)) p ≡ combinedSign o (signAt (b ∷ bs) n p) (signAt (b ∷ bs) n' p)
+  unfolding signAt
+  combined-grid o n n' p = combined-sign p o bs (n (slotOf b bs p)) (n' (slotOf b bs p))
+
+  module _ (𝓜 : Memory b bs) (i j : ℕ) (l : i < 8) (l' : j < 8) (d : j ≡ i → ⊥) (m m₁ : 𝓜 .Mem) (s : 𝓜 .Sound m) where
+    -- copy: lookups in the second seat are as they were in the first
+    pub copy-lookup : Promise b bs 𝓜 (Two Copy i j) m done m₁ → (q : Point) (r : Answer) (m' : 𝓜 .Mem) → Promise b bs 𝓜 (One j (Lookup q)) m₁ r m'
+        → r ≡ found (lookup (b ∷ bs) (𝓜 .state m .seat i .grid) q)
+    unfolding both
+    copy-lookup h q r m' h' =
+        let t = sim b bs 𝓜 (Two Copy i j) m done m₁ s h in
+        lookup-answer 𝓜 j l' m₁ m₁ (t .1) q r m' h'
+        ∙ ap (λ n. found (lookup (b ∷ bs) (n .grid) q)) (ap (λ o. o .1 .seat j) (t .0) ∙ seats-after Copy i j (𝓜 .state m) d (subst Accepted (ap (λ o. o .0) (t .0)) tt) .1)
+
+    -- demand 2: the combined sign at every voxel, as the calls answer it
+    pub combine-sign : (o : Operation) → Promise b bs 𝓜 (Two (Combine o) i j) m done m₁ → (p : Point) (r : Answer) (m' : 𝓜 .Mem) → Promise b bs 𝓜 (One i (Sign p)) m₁ r m'
+        → r ≡ negativeIs (combinedSign o (signAt (b ∷ bs) (𝓜 .state m .seat i .grid) p) (signAt (b ∷ bs) (𝓜 .state m .seat j .grid) p))
+    unfolding both
+    combine-sign o h p r m' h' =
+        let t = sim b bs 𝓜 (Two (Combine o) i j) m done m₁ s h in
+        let u = sim b bs 𝓜 (One i (Sign p)) m₁ r m' (t .1) h' in
+        let e = ap (λ o. o .1 .seat i) (t .0) ∙ seats-after (Combine o) i j (𝓜 .state m) d (subst Accepted (ap (λ o. o .0) (t .0)) tt) .0 in
+        ap (λ o. o .0) (u .0)
+        ∙ sign-call i l p (𝓜 .state m₁) (ap (λ n. n .filled) e)
+        ∙ ap (λ n. negativeIs (signAt (b ∷ bs) (n .grid) p)) e
+        ∙ ap negativeIs (combined-grid o (𝓜 .state m .seat i .grid) (𝓜 .state m .seat j .grid) p)

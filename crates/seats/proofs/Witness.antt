@@ -3,7 +3,8 @@
 use mathlib.Core.Path.{_≡_, refl, ap}
 use mathlib.Core.Bool.{Bool, true, false}
 use mathlib.Core.List.{List, [], _∷_}
-use Prim.Native.Nat.{ℕ}
+use Prim.Native.Nat.{ℕ, _≤_}
+use native.Mathlib.Omega.{arith}
 use Rattle.floats.proofs.Words.{negative-is}
 use Rattle.grid.specs.Node.{size}
 use Rattle.grid.specs.Voxel.{lookup, signAt}
@@ -12,9 +13,11 @@ use Rattle.seats.specs.Call.{Call, Prepare, Answer, refused, done}
 use Rattle.seats.specs.Promise.{Verdict, refuse, give, turn, loose, Memory, verdict, Keeps, Event, Chain, Run}
 use Rattle.seats.specs.Refusal.{Reads}
 use Rattle.seats.specs.Run.{callsOf, said}
-use Rattle.seats.specs.Seat.{State, prepared, free}
+use Rattle.seats.specs.Seat.{State, prepared, used, free}
 use Rattle.seats.specs.Step.{readsOf, step}
+use Rattle.seats.proofs.Laws.{fresh-used}
 use Rattle.seats.proofs.Promise.{sound-not-loose}
+use Rattle.seats.proofs.Runs.{step-within}
 use Rattle.seats.proofs.Proper.{AllProper, fresh-proper, step-proper}
 
 abbrev headOf : List ℕ → ℕ
@@ -26,6 +29,7 @@ module _ (b : ℕ) (bs : List ℕ) where
     pub good : Bool
     pub held : State b bs
     pub proper : AllProper b bs (held .seat)
+    pub enough : used b bs (held .seat) ≤ held .all
 
   -- everything is read off the state; where the mark is not set no path and no pool is good
   abbrev toyReads : Toy → Reads
@@ -51,11 +55,16 @@ module _ (b : ℕ) (bs : List ℕ) where
         negative-is = λ m s i l p. refl;
         proper-is = λ m s i l. m .proper i;
         all-is = λ m. refl;
+        within = λ m s. m .enough;
       }
+
+  pub step-enough : (st : State b bs) (c : Call) → used b bs (st .seat) ≤ st .all → used b bs (step b bs st c .1 .seat) ≤ step b bs st c .1 .all
+  unfolding step
+  step-enough st c h = step-within b bs st c h
 
   -- the state one step on
   abbrev turned : Toy → Call → Toy
-  turned m c = record { good = true; held = step b bs (m .held) c .1; proper = step-proper b bs (m .held) c (m .proper) }
+  turned m c = record { good = true; held = step b bs (m .held) c .1; proper = step-proper b bs (m .held) c (m .proper); enough = step-enough (m .held) c (m .enough) }
 
   abbrev answerOf : Verdict → Answer
   answerOf (refuse n) = refused n
@@ -99,9 +108,13 @@ module _ (b : ℕ) (bs : List ℕ) where
   unfolding prepared
   prepared-proper n i = fresh-proper b bs
 
+  pub prepared-enough : (n : ℕ) → used b bs (prepared b bs n .seat) ≤ prepared b bs n .all
+  unfolding prepared
+  prepared-enough n = omega (arith, fresh-used b bs)
+
   -- a memory of n cells that is not sound
   unfoldable pub lent : ℕ → Toy
-  lent n = record { good = false; held = prepared b bs n; proper = prepared-proper n }
+  lent n = record { good = false; held = prepared b bs n; proper = prepared-proper n; enough = prepared-enough n }
 
   pub run-of : (n : ℕ) (cs : List Call) → Run b bs toy n (events (turned (lent n) Prepare) cs)
   unfolding prepared lent step

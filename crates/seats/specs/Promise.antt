@@ -3,7 +3,7 @@ use mathlib.Core.Path.{_≡_}
 use mathlib.Core.Bool.{Bool, true, false, _||_, cond}
 use mathlib.Core.List.{List, [], _∷_}
 use mathlib.Core.Option.{Option, none, some}
-use Prim.Native.Nat.{ℕ, _<_}
+use Prim.Native.Nat.{ℕ, _<_, _≤_}
 use lib.Dec.{eqb}
 use Rattle.grid.specs.Geometry.{Point}
 use Rattle.grid.specs.Node.{size, Proper}
@@ -11,7 +11,7 @@ use Rattle.grid.specs.Voxel.{lookup, signAt}
 use Rattle.grid.specs.Whole.{cells, hollow}
 use Rattle.seats.specs.Call.{Lookup, Sign, Remove, Insert, Fill, Cut, Clear, Prune, Flip, FillSigns, IsEmpty, Call, One, Two, Prepare, Count, names, Answer, refused, found, negativeIs, emptyIs, freeCells, done}
 use Rattle.seats.specs.Refusal.{Reads, refusal}
-use Rattle.seats.specs.Seat.{State, free}
+use Rattle.seats.specs.Seat.{State, used, free}
 use Rattle.seats.specs.Step.{readsOf, step}
 
 -- i is one of the numbers
@@ -66,6 +66,8 @@ module _ (b : ℕ) (bs : List ℕ) where
     pub negative-is : (m : Mem) → Sound m → (i : ℕ) → i < 8 → (p : Point) → negativeAt i p m ≡ signAt (b ∷ bs) (state m .seat i .grid) p
     pub proper-is : (m : Mem) → Sound m → (i : ℕ) → i < 8 → Proper (b ∷ bs) (state m .seat i .grid)
     pub all-is : (m : Mem) → state m .all ≡ size (lens m)
+    -- "Free cells plus cells reached equals all cells": with reads-is, of every sound pool
+    pub within : (m : Mem) → Sound m → used b bs (state m .seat) ≤ state m .all
 
   module _ (𝓜 : Memory) where
     -- a call that is not refused
@@ -97,7 +99,7 @@ module _ (b : ℕ) (bs : List ℕ) where
     Keeps (refuse n) c m r m' = (r ≡ refused n) × (m' ≡ m)
     Keeps (give a) c m r m' = (r ≡ a) × (m' ≡ m)
     Keeps (turn a) c m r m' = (r ≡ a) × 𝓜 .Sound m' × (𝓜 .state m' ≡ step b bs (𝓜 .state m) c .1) × (𝓜 .lens m' ≡ 𝓜 .lens m)
-    Keeps loose c m r m' = Accepted r × (𝓜 .lens m' ≡ 𝓜 .lens m) × 𝓜 .Loose m m'
+    Keeps loose c m r m' = (r ≡ done) × (𝓜 .lens m' ≡ 𝓜 .lens m) × 𝓜 .Loose m m'
 
     abbrev pub Promise : Call → 𝓜 .Mem → Answer → 𝓜 .Mem → Type 0
     Promise c m r m' = Keeps (verdict c m) c m r m'
