@@ -1,0 +1,26 @@
+-- The theorems on what the memory of a pool stands for.
+pub mod Attach
+pub mod Count
+pub mod Drop
+pub mod Each
+pub mod Frame
+pub mod Grow
+pub mod Insert
+pub mod Levels
+pub mod Lookup
+pub mod Loose
+pub mod Memory
+pub mod Pigeon
+pub mod Points
+pub mod Prepared
+pub mod ProperTree
+pub mod Prune
+pub mod Put
+pub mod Release
+pub mod Remove
+pub mod SeatTurn
+pub mod Slots
+pub mod Sums
+pub mod Test
+pub mod Turned
+pub mod Wipe

@@ -1,0 +1,26 @@
+-- Sums over the numbers below m. Assumes nothing.
+use mathlib.Core.Path.{_≡_, refl, sym}
+use mathlib.Core.Logic.{_≢_}
+use Prim.Native.Nat.{ℕ, zero, suc, _+_, _<_}
+use native.Mathlib.Omega.{arith}
+use Rattle.grid.specs.Node.{sum}
+use Rattle.grid.proofs.Places.{sum-zero, sum-at, sum-only}
+
+-- all but place d hold 0
+pub sum-one : (m : ℕ) (f : ℕ → ℕ) (d : ℕ) → d < m → ((c : ℕ) → c < m → c ≢ d → f c ≡ 0) → sum m f ≡ f d
+sum-one m f d l h = omega (arith, sum-at m f d l, sum-only m f d h)
+
+pub sum-add : (m : ℕ) (f g : ℕ → ℕ) → sum m (λ c. f c + g c) ≡ sum m f + sum m g
+unfolding sum
+sum-add zero f g = refl
+sum-add (suc m) f g = omega (arith, sum-add m f g)
+
+pub sum-swap : (n m : ℕ) (f : ℕ → ℕ → ℕ) → sum n (λ a. sum m (f a)) ≡ sum m (λ b. sum n (λ a. f a b))
+unfolding sum
+sum-swap zero m f = sym (sum-zero m (λ b. 0) (λ c l. refl))
+sum-swap (suc n) m f = omega (arith, sum-swap n m f, sum-add m (f n) (λ b. sum n (λ a. f a b)))
+
+pub sum-ones : (m : ℕ) → sum m (λ i. 1) ≡ m
+unfolding sum
+sum-ones zero = refl
+sum-ones (suc m) = omega (arith, sum-ones m)

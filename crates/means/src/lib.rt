@@ -1,0 +1,1 @@
+// What the memory of a pool stands for: theorems alone, there is no code here.

@@ -1,0 +1,12 @@
+-- The laws that belong to no one function.
+pub mod Voxels
+pub mod Places
+pub mod States
+pub mod Changes
+pub mod Books
+pub mod Paths
+pub mod Inserts
+pub mod Removes
+pub mod Tells
+pub mod Each
+pub mod Wipes

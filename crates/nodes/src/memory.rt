@@ -1,0 +1,68 @@
+// The places of words and bits, and what is read and stored there.
+ghost use mathlib.Core.Path.{_≡_};
+ghost use mathlib.Core.Bool.{cond};
+ghost use Prim.Native.Nat.{ℕ, _+_, _*_, _<_};
+ghost use lib.ListN.{length, getD, set};
+ghost use lib.Dec.{eqb};
+ghost use Rattle.bitset.specs.Set.{bitOf};
+ghost use Rattle.nodes.specs.Layout.{wordOf, kidBit, valBit};
+ghost use Rattle.nodes.specs.Range.{Placed};
+
+// The place of a slot's word, and of its bit among the child bits and among the value bits.
+pub fn word_of(x: usize, k: usize) -> usize
+    requires { ⌜ (x < 65544) × (k < 512) ⌝ }
+    ensures { λ r. ⌜ r ≡ wordOf x k ⌝ }
+{
+    if x < 8 {
+        512 * x + k
+    } else {
+        3584 + 64 * x + k
+    }
+}
+
+// The word of slot k of node x: a cell number or a value.
+pub fn word(slots: &[u32], x: usize, k: usize) -> u32
+    requires { ⌜ Placed x k (length (now slots)) ⌝ }
+    ensures { λ r. ⌜ r ≡ getD (now (slots .entry)) (wordOf x k) 0 ⌝ }
+{
+    let i = word_of(x, k);
+    slots[i]
+}
+
+// Its bit in the child mask.
+pub fn kid(masks: &[u64], x: usize, k: usize) -> bool
+    requires { ⌜ Placed x k (64 * length (now masks)) ⌝ }
+    ensures { λ r. ⌜ r ≡ bitOf (now (masks .entry)) (kidBit x k) ⌝ }
+{
+    bitset::at(masks, word_of(x, k))
+}
+
+// Its bit in the value mask: the value bits stand after all the child bits.
+pub fn val(masks: &[u64], n: usize, x: usize, k: usize) -> bool
+    requires { ⌜ (n < 65536) × (length (now masks) ≡ 128 + 2 * n) × Placed x k (64 * (64 + n)) ⌝ }
+    ensures { λ r. ⌜ r ≡ bitOf (now (masks .entry)) (valBit n x k) ⌝ }
+{
+    bitset::at(masks, 64 * (64 + n) + word_of(x, k))
+}
+
+pub fn set_word(slots: &mut [u32], x: usize, k: usize, w: u32)
+    requires { ⌜ Placed x k (length (now slots)) ⌝ }
+    ensures { λ _. ⌜ now (slots .exit) ≡ set (now (slots .entry)) (wordOf x k) w ⌝ }
+{
+    let i = word_of(x, k);
+    slots[i] = w;
+}
+
+pub fn set_kid(masks: &mut [u64], x: usize, k: usize, on: bool)
+    requires { ⌜ Placed x k (64 * length (now masks)) ⌝ }
+    ensures { λ _. ⌜ ((j : ℕ) → bitOf (now (masks .exit)) j ≡ cond (eqb j (kidBit x k)) on (bitOf (now (masks .entry)) j)) ⌝ }
+{
+    bitset::set(masks, word_of(x, k), on);
+}
+
+pub fn set_val(masks: &mut [u64], n: usize, x: usize, k: usize, on: bool)
+    requires { ⌜ (n < 65536) × (length (now masks) ≡ 128 + 2 * n) × Placed x k (64 * (64 + n)) ⌝ }
+    ensures { λ _. ⌜ ((j : ℕ) → bitOf (now (masks .exit)) j ≡ cond (eqb j (valBit n x k)) on (bitOf (now (masks .entry)) j)) ⌝ }
+{
+    bitset::set(masks, 64 * (64 + n) + word_of(x, k), on);
+}

@@ -1,0 +1,136 @@
+// The remove of a voxel: the walk down splits tiles, and the way back releases what has become empty.
+use super::cells;
+use super::geometry;
+use super::memory;
+use super::walk;
+use super::walk::Below;
+use super::walk::Slot;
+ghost use mathlib.Core.Path.{_≡_};
+ghost use mathlib.Core.Bool.{not};
+ghost use mathlib.Core.List.{List};
+ghost use Prim.Native.Nat.{ℕ, _+_, _*_, _<_};
+ghost use lib.ListN.{length};
+ghost use Rattle.bitset.specs.Set.{bitOf, every};
+ghost use Rattle.nodes.specs.Change.{hideS};
+ghost use Rattle.nodes.specs.Layout.{Sized, st};
+ghost use Rattle.nodes.specs.Range.{In, Stands};
+ghost use Rattle.nodes.specs.Remove.{bareS, shutM, removeM};
+ghost use Rattle.nodes.specs.Split.{splitR, splitS};
+ghost use Rattle.nodes.specs.Walk.{branching, below, pointOf};
+
+// Slot k of node x is hidden and keeps its word. The promise holds whatever the words and the book.
+pub fn hide(masks: &mut [u64], n: usize, x: usize, k: usize)
+    requires { ⌜ (n < 65536) × (length (now masks) ≡ 128 + 2 * n) × In n x k ⌝ }
+    ensures { λ _. ⌜ ((slots book : List ℕ) → st n slots (now (masks .exit)) book ≡ hideS x k (st n slots (now (masks .entry)) book)) ⌝ }
+{
+    memory::set_val(masks, n, x, k, false);
+}
+
+// None of the 64 bits of word i is on.
+fn clear(masks: &[u64], i: usize) -> bool
+    requires { ⌜ i < length (now masks) ⌝ }
+    ensures { λ r. ⌜ r ≡ every (λ j. not (bitOf (now (masks .entry)) (64 * i + j))) 64 ⌝ }
+{
+    masks[i] == 0
+}
+
+// No slot of cell c of a level is active or a branch. A cell's 64 value bits are one word and its 64 child bits another; the child mask of a leaf is not
+// looked at.
+pub fn bare(masks: &[u64], n: usize, level: usize, c: usize) -> bool
+    requires { ⌜ (n < 65536) × (length (now masks) ≡ 128 + 2 * n) × (c < n) ⌝ }
+    ensures { λ r. ⌜ ((slots book : List ℕ) → r ≡ bareS (below level) (st n slots (now (masks .entry)) book) (8 + c)) ⌝ }
+{
+    if !clear(masks, 128 + n + c) {
+        return false;
+    }
+    if level == 0 {
+        return true;
+    }
+    clear(masks, 64 + c)
+}
+
+// The cell below slot k of node x, of a level, is released if it is bare. Nothing is done where the link leaves the pool, or the stack is full.
+fn shut(
+    slots: &mut [u32],
+    masks: &mut [u64],
+    book: &mut [u32],
+    n: usize,
+    level: usize,
+    x: usize,
+    k: usize,
+)
+    requires { ⌜ (Sized n (now slots) (now masks) (now book)) × In n x k ⌝ }
+    ensures { λ _. ⌜ st n (now (slots .exit)) (now (masks .exit)) (now (book .exit)) ≡ shutM (below level) n x k (st n (now (slots .entry)) (now (masks .entry)) (now (book .entry))) ⌝ }
+{
+    let c = memory::word(slots, x, k) as usize;
+    if n <= c {
+        return;
+    }
+    if !bare(masks, n, level, c) {
+        return;
+    }
+    cells::release(slots, masks, book, n, x, k);
+}
+
+// What a remove does at slot k of node x above the leaves, where it is s: a tile becomes a branch of such tiles, and a hidden slot ends the walk. A tile that is
+// not finite is carried nowhere.
+fn split(
+    slots: &mut [u32],
+    masks: &mut [u64],
+    book: &mut [u32],
+    n: usize,
+    x: usize,
+    k: usize,
+    s: Slot,
+) -> Below
+    requires { ⌜ (Sized n (now slots) (now masks) (now book)) × In n x k ⌝ }
+    ensures { λ r. ⌜ (r ≡ splitR n (st n (now (slots .entry)) (now (masks .entry)) (now (book .entry))) s)
+        × (st n (now (slots .exit)) (now (masks .exit)) (now (book .exit)) ≡ splitS n x k (st n (now (slots .entry)) (now (masks .entry)) (now (book .entry))) s) ⌝ }
+{
+    match s {
+        Slot::Branch(c) => {
+            if c < n {
+                return Below::Go(c);
+            }
+            Below::Stop
+        }
+        Slot::Tile(u) => {
+            if floats::finite_word(u) {
+                return walk::grow(slots, masks, book, n, x, k, u, true);
+            }
+            Below::Stop
+        }
+        Slot::Hidden(_) => Below::Stop,
+    }
+}
+
+// The voxel v below node x of a level is removed. A branch that was there and is then empty is released; one that was split off on the way has other tiles left,
+// so it is not looked at.
+pub fn remove(
+    slots: &mut [u32],
+    masks: &mut [u64],
+    book: &mut [u32],
+    n: usize,
+    level: usize,
+    x: usize,
+    v: usize,
+)
+    requires { ⌜ (Sized n (now slots) (now masks) (now book)) × Stands n level x ⌝ }
+    ensures { λ _. ⌜ st n (now (slots .exit)) (now (masks .exit)) (now (book .exit)) ≡ removeM (branching level) (below level) n (pointOf v) x (st n (now (slots .entry)) (now (masks .entry)) (now (book .entry))) ⌝ }
+{
+    let k = geometry::slot_in(level, v);
+    if level == 0 {
+        hide(masks, n, x, k);
+        return;
+    }
+    let old = memory::kid(masks, x, k);
+    let s = walk::view(slots, masks, n, level, x, k);
+    let t = split(slots, masks, book, n, x, k, s);
+    let Below::Go(c) = t else {
+        return;
+    };
+    remove(slots, masks, book, n, level - 1, 8 + c, v);
+    if old {
+        shut(slots, masks, book, n, level - 1, x, k);
+    }
+}

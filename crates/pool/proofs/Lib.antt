@@ -1,0 +1,11 @@
+-- The laws that belong to no one function.
+pub mod Fits
+pub mod Book
+pub mod Ready
+pub mod Checks
+pub mod Promises
+pub mod Afford
+pub mod Turns
+pub mod WholePromises
+pub mod SeatPromises
+pub mod Demands

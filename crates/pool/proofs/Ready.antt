@@ -1,0 +1,137 @@
+-- What preparing writes, from the words of each slice to the state. Assumes nothing.
+use mathlib.Core.Path.{_≡_, refl, sym, ap, _∙_, subst}
+use mathlib.Core.Bool.{Bool, true, false, _&&_, _||_, and-false}
+use mathlib.Core.List.{List}
+use mathlib.Core.Logic.{_⊎_, inl, inr}
+use Prim.Native.Nat.{ℕ, _+_, _-_, _*_, _/_, _%_, _<_, _≤_}
+use native.Mathlib.Omega.{arith}
+use lib.Dec.{ltb, leb}
+use lib.ListN.{length, getD, set, length-set}
+use lib.Seq.{getD-set-same, getD-set-other, length-take-le}
+use borrow.Author.Tests.{lt-ltb, le-ltb, le-leb, lt-leb}
+use borrow.Rule.Slice.PartMut.{putMid, same-len-mid}
+use Rattle.floats.specs.Value.{isFinite, far}
+use Rattle.floats.proofs.Finite.{finite-far}
+use Rattle.bitset.specs.Set.{bitOf}
+use Rattle.bitset.proofs.Digits.{lt-or-le, is-or-not}
+use Rattle.bitset.proofs.Parts.{bit-put}
+use Rattle.nodes.specs.Layout.{st, wordOf}
+use Rattle.nodes.specs.Range.{In}
+use Rattle.nodes.proofs.Places.{wide-top, word-top}
+use Rattle.nodes.proofs.States.{st-slot, st-kid, st-val}
+use Rattle.means.specs.Prepared.{Ready}
+use Rattle.pool.specs.Runs.{Run, Emptied, Freed}
+use Rattle.pool.proofs.Book.{st-count, st-tag, st-stack, st-mark}
+
+-- ---- a run of words, written from its first on
+pub run-none : (lo : ℕ) (f : ℕ → ℕ) (l : List ℕ) → Run lo 0 f l l
+run-none lo f l = record { long = refl; here = λ j a b. absurd (omega arith); other = λ j h. refl }
+
+pub run-more : {lo i : ℕ} {f : ℕ → ℕ} {l₀ l : List ℕ} → Run lo i f l₀ l → lo + i < length l → Run lo (i + 1) f l₀ (set l (lo + i) (f i))
+run-more {lo} {i} {f} {l₀} {l} r h =
+    record {
+      long = length-set l (lo + i) (f i) ∙ r .long;
+      here = λ j a b. elim (is-or-not j (lo + i)) [
+        | inl e ↦ let d : i ≡ j - lo = omega arith in ap (λ (k : ℕ). getD (set l (lo + i) (f i)) k 0) e ∙ getD-set-same l (lo + i) (f i) 0 h ∙ ap f d
+        | inr e ↦ getD-set-other l (lo + i) j (f i) 0 e ∙ r .here j a (omega arith)
+      ];
+      other = λ j o. getD-set-other l (lo + i) j (f i) 0 (apart j o) ∙ r .other j (wider j o);
+    }
+  where
+    apart : (j : ℕ) → (j < lo) ⊎ (lo + (i + 1) ≤ j) → j ≡ lo + i → ⊥
+    apart j (inl q) e = omega arith
+    apart j (inr q) e = omega arith
+
+    wider : (j : ℕ) → (j < lo) ⊎ (lo + (i + 1) ≤ j) → (j < lo) ⊎ (lo + i ≤ j)
+    wider j (inl q) = inl q
+    wider j (inr q) = inr (omega arith)
+
+-- the loop is at the end of the run
+pub run-all : {lo i : ℕ} (len : ℕ) {f : ℕ → ℕ} {l₀ l : List ℕ} → Run lo i f l₀ l → i ≤ len → len ≤ i → Run lo len f l₀ l
+run-all {lo} {i} len {f} {l₀} {l} r a b = let e : i ≡ len = omega arith in subst (λ (m : ℕ). Run lo m f l₀ l) e r
+
+-- ---- the masks: a part whose bits are all off is put back
+module _ (ws ys : List ℕ) (a n : ℕ) (fits : a + n ≤ length ws) (long : length ys ≡ n) (none : (i : ℕ) → bitOf ys i ≡ false) where
+  -- the bits of the whole: those outside the part are as before
+  kept : ℕ → Bool
+  kept k = (ltb k (64 * a) || leb (64 * (a + n)) k) && bitOf ws k
+
+  kept-none : (k : ℕ) → 64 * a ≤ k → k < 64 * (a + n) → kept k ≡ false
+  unfolding kept
+  kept-none k l h = rw (le-ltb k (64 * a) l, lt-leb (64 * (a + n)) k h) refl
+
+  kept-all : (k : ℕ) → (k < 64 * a) ⊎ (64 * (a + n) ≤ k) → bitOf ws k ≡ kept k
+  unfolding kept
+  kept-all k (inl h) = sym (rw (lt-ltb k (64 * a) h) refl)
+  kept-all k (inr h) = sym (rw (le-ltb k (64 * a) (omega arith), le-leb (64 * (a + n)) k h) refl)
+
+  put-off : (k : ℕ) → bitOf (putMid a n ws ys) k ≡ kept k
+  put-off = bit-put ws ys a n fits long kept (λ i h. none i ∙ sym (kept-none (64 * a + i) (omega arith) (omega arith))) kept-all
+
+  pub off-here : (k : ℕ) → 64 * a ≤ k → k < 64 * (a + n) → bitOf (putMid a n ws ys) k ≡ false
+  off-here k l h = put-off k ∙ kept-none k l h
+
+  -- a bit that was off stays off
+  pub off-still : (k : ℕ) → bitOf ws k ≡ false → bitOf (putMid a n ws ys) k ≡ false
+  unfolding kept
+  off-still k e = put-off k ∙ rw e (and-false (ltb k (64 * a) || leb (64 * (a + n)) k))
+
+-- first the 64 child words of the tops, then their 64 value words
+pub emptied : (n : ℕ) (ws ys zs : List ℕ) → length ws ≡ 128 + 2 * n → length ys ≡ 64 → length zs ≡ 64 → ((i : ℕ) → bitOf ys i ≡ false) → ((i : ℕ) → bitOf zs i ≡ false)
+    → Emptied n (putMid (64 + n) (128 + n - (64 + n)) (putMid 0 64 ws ys) zs)
+emptied n ws ys zs h a b p q =
+    let d = 128 + n - (64 + n) in
+    let e : 64 ≡ d = omega arith in
+    let l : length (putMid 0 64 ws ys) ≡ length ws = same-len-mid 0 64 ws ys (a ∙ sym (length-take-le 64 ws (omega arith))) in
+    record {
+      kids = λ i m. off-still (putMid 0 64 ws ys) zs (64 + n) d (omega arith) (b ∙ e) q i (off-here ws ys 0 64 (omega arith) a p i (omega arith) (omega arith));
+      vals = λ i m. off-here (putMid 0 64 ws ys) zs (64 + n) d (omega arith) (b ∙ e) q (64 * (64 + n) + i) (omega arith) (omega arith);
+    }
+
+-- ---- the book: the marks, the use marks, the stack, and the count
+pub freed : (n : ℕ) {l₀ l₁ l₂ l₃ : List ℕ} → length l₀ ≡ 9 + 2 * n → Run 0 8 (λ i. 0) l₀ l₁ → Run 9 n (λ i. i) l₁ l₂ → Run (9 + n) n (λ i. i) l₂ l₃ → Freed n (set l₃ 8 n)
+freed n {l₀} {l₁} {l₂} {l₃} h a b c =
+    record {
+      marks = λ t m. apart t (λ e. omega arith) ∙ c .other t (inl (omega arith)) ∙ b .other t (inl (omega arith)) ∙ a .here t (omega arith) (omega arith);
+      count = getD-set-same l₃ 8 n 0 (omega (arith, a .long, b .long, c .long));
+      tags = λ i m.
+          let e : 9 + i - 9 ≡ i = omega arith in
+          apart (9 + i) (λ e. omega arith) ∙ c .other (9 + i) (inl (omega arith)) ∙ b .here (9 + i) (omega arith) (omega arith) ∙ e;
+      stack = λ i m. let e : 9 + n + i - (9 + n) ≡ i = omega arith in apart (9 + n + i) (λ e. omega arith) ∙ c .here (9 + n + i) (omega arith) (omega arith) ∙ e;
+    }
+  where
+    apart : (j : ℕ) → (j ≡ 8 → ⊥) → getD (set l₃ 8 n) j 0 ≡ getD l₃ j 0
+    apart j = getD-set-other l₃ 8 j n 0
+
+-- ---- the state
+pub top : (n t k : ℕ) → t < 8 → k < 512 → In n t k
+top n t k ht hk = record { node = omega arith; slot = omega (arith, wide-top t ht) }
+
+pub ready : (n : ℕ) {slots₀ slots masks book : List ℕ} (w : ℕ) → w ≡ far → Run 0 4096 (λ i. w) slots₀ slots → Emptied n masks → Freed n book → Ready n (st n slots masks book)
+ready n {slots₀} {slots} {masks} {book} w e r m b =
+    record {
+      all-free = st-count n slots masks book ∙ b .count;
+      placed = λ i h. st-stack n slots masks book i h ∙ b .stack i h;
+      tagged = λ i h. st-tag n slots masks book i h ∙ b .tags i h;
+      no-branch = λ t k ht hk. st-kid slots masks book (top n t k ht hk) ∙ m .kids (wordOf t k) (low t k ht hk);
+      no-tile = λ t k ht hk. st-val slots masks book (top n t k ht hk) ∙ m .vals (wordOf t k) (low t k ht hk);
+      all-far = λ t k ht hk. st-slot slots masks book (top n t k ht hk) ∙ r .here (wordOf t k) (omega arith) (low t k ht hk) ∙ e;
+      unmarked = λ t h. st-mark n slots masks book t h ∙ b .marks t h;
+    }
+  where
+    low : (t k : ℕ) → t < 8 → k < 512 → wordOf t k < 4096
+    low t k ht hk = omega (arith, word-top t k ht)
+
+-- what a caller of prepare has of every word of the slots: it is as before, or finite
+pub ready-finite : (n : ℕ) (slots₀ slots masks book : List ℕ) → Ready n (st n slots masks book) → ((i : ℕ) → 4096 ≤ i → getD slots i 0 ≡ getD slots₀ i 0)
+    → (i : ℕ) → (getD slots i 0 ≡ getD slots₀ i 0) ⊎ (isFinite (getD slots i 0) ≡ true)
+ready-finite n slots₀ slots masks book r kept i = elim (lt-or-le i 4096) [
+  | inl h ↦
+      let t = i / 512 in
+      let k = i % 512 in
+      let ht : t < 8 = omega arith in
+      let hk : k < 512 = omega arith in
+      let e : i ≡ wordOf t k = omega (arith, word-top t k ht) in
+      inr (ap isFinite (ap (λ (j : ℕ). getD slots j 0) e ∙ sym (st-slot slots masks book (top n t k ht hk)) ∙ r .all-far t k ht hk) ∙ finite-far)
+  | inr h ↦ inl (kept i h)
+]

@@ -1,0 +1,237 @@
+-- The promises of the calls on the pool and of those that only read a seat, from what the code tested and read. Assumes nothing.
+use mathlib.Core.Path.{_≡_, refl, sym, ap, ap₂, _∙_, subst, fun-ext}
+use mathlib.Core.Bool.{Bool, true, false, not, _&&_}
+use mathlib.Core.List.{List, [], _∷_}
+use Prim.Native.Nat.{ℕ, zero, suc, _+_, _-_, _*_, _%_, _<_, _≤_}
+use native.Mathlib.Omega.{arith}
+use lib.ListN.{length, getD, take, drop}
+use lib.Dec.{ltb, leb, eqb}
+use borrow.Author.Tests.{ltb-true, lt-leb}
+use Rattle.floats.specs.Value.{isFinite, negative}
+use Rattle.floats.proofs.Words.{on-case}
+use Rattle.floats.proofs.Floats.{word-value}
+use Rattle.bitset.specs.Set.{bitOf, every, empty}
+use Rattle.bitset.proofs.Every.{both-ways, and-both, every-intro, every-elim}
+use Rattle.bitset.proofs.Parts.{bit-part}
+use Rattle.grid.specs.Geometry.{Point, slotOf}
+use Rattle.grid.specs.Node as node
+use Rattle.grid.specs.Node.{Node, isHidden, size}
+use Rattle.grid.specs.Whole.{isEmpty}
+use Rattle.seats.specs.Call.{Call, One, Sign, IsEmpty, Prepare, Count, names, Answer, refused, negativeIs, emptyIs, freeCells, done, wholePool, asks}
+use Rattle.seats.specs.Refusal.{any, alike}
+use Rattle.seats.specs.Seat.{Seat, State, fresh}
+use Rattle.seats.specs.Step.{step, play, served}
+use Rattle.nodes.specs.State.{St, slotAt, tree}
+use Rattle.nodes.specs.Layout.{st, wordOf, countPlace, inside}
+use Rattle.nodes.specs.Test.{soundB}
+use Rattle.nodes.specs.Walk.{Reach, active, hidden, broken, reachAt, reachS, floated, pointOf}
+use Rattle.nodes.specs.declared.walk.Ends.{Ends}
+use Rattle.nodes.proofs.Places.{word-top}
+use Rattle.nodes.proofs.States.{st-kid, st-val}
+use Rattle.means.specs.Mem.{Mem, cellsOf, poolOf, SoundMem, seatOf, stateOf, lensOf, walk}
+use Rattle.means.specs.Prepared.{Ready}
+use Rattle.means.proofs.Memory.{fitting, mem-sound, seat-is}
+use Rattle.means.proofs.Points.{voxelOf}
+use Rattle.means.proofs.Prepared.{ready-sound, ready-fresh}
+use Rattle.pool.specs.Answers.{Says, codeOf, countOf, whetherOf, finiteE, signedE}
+use Rattle.pool.specs.declared.whole.Free.the-variants as free
+use Rattle.pool.specs.declared.whole.Whether.{Whether}
+use Rattle.pool.specs.declared.whole.Whether.the-variants as whether
+use Rattle.pool.proofs.Book.{st-count, st-mark}
+use Rattle.pool.proofs.Checks.{passed, failed}
+use Rattle.pool.proofs.Promises.{Counted, is-fit, is-cells, is-pool, is-walk}
+use Rattle.pool.proofs.Ready.{top}
+
+-- ---- preparing: m is the memory before it, and m' after it
+
+-- a seat of a pool made ready is as after Clear
+ready-seat : (m : Mem) → Ready (cellsOf m) (poolOf m) → (t : ℕ) → seatOf m t ≡ fresh 3 (2 ∷ 2 ∷ [])
+unfolding seatOf fresh
+ready-seat m r t = on-case (ltb t 8)
+    (λ e.
+    let l = ltb-true t 8 e in
+    rw e
+    (ap₂ {C = Seat 3 (2 ∷ 2 ∷ [])} (λ (g : Node (3 ∷ 2 ∷ 2 ∷ [])) (k : ℕ). record { grid = g; filled = eqb k 1 }) (ready-fresh r t l) (r .unmarked t l)))
+    (λ e. rw e refl)
+
+pub prepare-says : (m m' : Mem) (n : ℕ) → Counted n m → (n ≡ 0 → ⊥) → Ready n (st n (m' .slots) (m' .masks) (m' .book))
+    → length (m' .slots) ≡ length (m .slots) → length (m' .masks) ≡ length (m .masks) → length (m' .book) ≡ length (m .book) → Says codeOf Prepare m 0 m'
+unfolding step play served
+prepare-says m m' n h z r a b c = (done, refl, rw (is-fit m n h z) (refl, sound, state, lens))
+  where
+    -- the lengths are the same, and so is the number of cells
+    after : Counted n m'
+    after k p q s = h k (p ∙ a) (q ∙ b) (s ∙ c)
+
+    ready : Ready (cellsOf m') (poolOf m')
+    ready = subst (λ (k : ℕ). Ready k (poolOf m')) (is-cells m' n after z) (subst (Ready n) (is-pool m' n after z) r)
+
+    sound : SoundMem m'
+    sound = let f = is-fit m' n after z in (f, ready-sound ready (fitting m' f .most))
+
+    state : stateOf m' ≡ record { seat = λ t. fresh 3 (2 ∷ 2 ∷ []); all = cellsOf m }
+    state =
+        ap₂ {C = State 3 (2 ∷ 2 ∷ [])} (λ (s : ℕ → Seat 3 (2 ∷ 2 ∷ [])) (k : ℕ). record { seat = s; all = k })
+        (fun-ext (ready-seat m' ready)) (sym (is-cells m' n after z) ∙ is-cells m n h z)
+
+    lens : lensOf m' ≡ lensOf m
+    lens = rw (a, b, c) refl
+
+-- ---- both masks of a top are empty exactly where every slot of it is hidden
+
+every-is : {A : Type 0} (f : A → Bool) (k : ℕ) (g : ℕ → A) → node.every f k g ≡ every (λ i. f (g i)) k
+unfolding node.every every
+every-is f zero g = refl
+every-is f (suc k) g = ap (λ (b : Bool). f (g k) && b) (every-is f k g)
+
+every-both : (p q r : ℕ → Bool) (n : ℕ) → ((k : ℕ) → k < n → r k ≡ p k && q k) → every r n ≡ every p n && every q n
+every-both p q r n h =
+    both-ways (every r n) (every p n && every q n)
+    (λ e.
+    let b : (k : ℕ) → k < n → (p k ≡ true) × (q k ≡ true) = λ k l. and-both (p k) (q k) (sym (h k l) ∙ every-elim r n e k l) in
+    ap₂ _&&_ (every-intro p n (λ k l. b k l .0)) (every-intro q n (λ k l. b k l .1)))
+    (λ e.
+    let b = and-both (every p n) (every q n) e in
+    every-intro r n (λ k l. h k l ∙ ap₂ _&&_ (every-elim p n (b .0) k l) (every-elim q n (b .1) k l)))
+
+hidden-is : {C : Type 0} (f : ℕ → C) (s : St) (x k : ℕ) → isHidden (slotAt f s x k) ≡ not (s .kid x k) && not (s .val x k)
+unfolding isHidden
+hidden-is f s x k = on-case (s .kid x k) (λ e. rw e refl) (λ e. on-case (s .val x k) (λ d. rw (e, d) refl) (λ d. rw (e, d) refl))
+
+-- the top of seat t, by its words in the child masks and in the value masks
+module _ (n : ℕ) (slots masks book : List ℕ) (t : ℕ) (l : t < 8) where
+  abbrev kids : List ℕ
+  kids = take (8 * t + 8 - 8 * t) (drop (8 * t) masks)
+
+  abbrev vals : List ℕ
+  vals = take (64 + n + 8 * t + 8 - (64 + n + 8 * t)) (drop (64 + n + 8 * t) masks)
+
+  abbrev grid : Node (3 ∷ 2 ∷ 2 ∷ [])
+  grid = tree 3 (2 ∷ 2 ∷ []) (st n slots masks book) t
+
+  kid-bit : (k : ℕ) → k < 512 → st n slots masks book .kid t k ≡ bitOf kids k
+  kid-bit k h =
+      let e : wordOf t k ≡ 64 * (8 * t) + k = omega (arith, word-top t k l) in
+      st-kid slots masks book (top n t k l h) ∙ ap (bitOf masks) e ∙ sym (bit-part masks (8 * t) (8 * t + 8 - 8 * t) k (omega arith))
+
+  val-bit : (k : ℕ) → k < 512 → st n slots masks book .val t k ≡ bitOf vals k
+  val-bit k h =
+      let e : 64 * (64 + n) + wordOf t k ≡ 64 * (64 + n + 8 * t) + k = omega (arith, word-top t k l) in
+      st-val slots masks book (top n t k l h) ∙ ap (bitOf masks) e
+      ∙ sym (bit-part masks (64 + n + 8 * t) (64 + n + 8 * t + 8 - (64 + n + 8 * t)) k (omega arith))
+
+  slot-hidden : (k : ℕ) → k < 512 → isHidden (grid k) ≡ not (bitOf kids k) && not (bitOf vals k)
+  unfolding tree size
+  slot-hidden k h =
+      let e : k % 512 ≡ k = omega arith in
+      ap (λ (j : ℕ). isHidden (slotAt (tree 2 (2 ∷ []) (st n slots masks book)) (st n slots masks book) t j)) e
+      ∙ hidden-is (tree 2 (2 ∷ []) (st n slots masks book)) (st n slots masks book) t k
+      ∙ ap₂ (λ (a b : Bool). not a && not b) (kid-bit k h) (val-bit k h)
+
+  empty-is : isEmpty 3 (2 ∷ 2 ∷ []) grid ≡ empty kids 512 && empty vals 512
+  unfolding isEmpty size
+  empty-is = every-is isHidden 512 grid ∙ every-both (λ k. not (bitOf kids k)) (λ k. not (bitOf vals k)) (λ k. isHidden (grid k)) 512 slot-hidden
+
+  module _ (r : Bool) (e : r ≡ empty kids 512) where
+    pub kids-on : not r ≡ true → false ≡ isEmpty 3 (2 ∷ 2 ∷ []) grid
+    kids-on f = sym (empty-is ∙ rw (failed r e f) refl)
+
+    pub vals-say : not r ≡ false → (q : Bool) → q ≡ empty vals 512 → q ≡ isEmpty 3 (2 ∷ 2 ∷ []) grid
+    vals-say f q d = d ∙ sym (empty-is ∙ rw (passed r e f) refl)
+
+-- ---- where a walk ends in memory: a finite word of 32 bits
+
+abbrev Reached : Reach → Type 0
+Reached (active l w) = (w < 0x1_0000_0000) × (isFinite w ≡ true)
+Reached (hidden l w) = (w < 0x1_0000_0000) × (isFinite w ≡ true)
+Reached broken = Unit {0}
+
+-- each word has 32 bits
+abbrev Short : List ℕ → Type 0
+Short slots = (j : ℕ) → getD slots j 0 < 0x1_0000_0000
+
+module _ (n : ℕ) (slots masks book : List ℕ) (h : Short slots) (p : Point) where
+  short : (x k : ℕ) → st n slots masks book .slot x k < 0x1_0000_0000
+  unfolding st
+  short x k = on-case (inside n x k) (λ e. rw e (h (wordOf x k))) (λ e. rw e (omega arith))
+
+  at-reached : (l x k : ℕ) → Reached (reachAt l (st n slots masks book) x k)
+  at-reached l x k = on-case (isFinite (st n slots masks book .slot x k))
+      (λ e. on-case (st n slots masks book .val x k) (λ d. rw (e, d) (short x k, e)) (λ d. rw (e, d) (short x k, e)))
+      (λ e. rw e tt)
+
+  reached : (b : ℕ) (bs : List ℕ) (x : ℕ) → Reached (reachS b bs n (st n slots masks book) x p)
+  unfolding reachS
+  reached b [] x = at-reached 0 x (slotOf b [] p)
+  reached b (c ∷ bs) x =
+      let k = slotOf b (c ∷ bs) p in
+      let s = st n slots masks book in
+      on-case (s .kid x k)
+      (λ e. on-case (s .val x k)
+      (λ d. rw (e, d) tt)
+      (λ d. on-case (ltb (s .slot x k) n)
+      (λ f. rw (e, d, f) (reached c bs (8 + s .slot x k)))
+      (λ f. rw (e, d, f) tt)))
+      (λ e. rw e (at-reached _ x k))
+
+-- so the float at the end of the walk to a voxel is finite
+pub finite-end : (m : Mem) (n : ℕ) → Short (m .slots) → (i v : ℕ) {e : Ends}
+    → e ≡ floated (reachS 3 (2 ∷ 2 ∷ []) n (st n (m .slots) (m .masks) (m .book)) i (pointOf v)) → finiteE e ≡ true
+unfolding isFinite
+finite-end m n h i v a = ap finiteE a ∙ go (reachS 3 (2 ∷ 2 ∷ []) n (st n (m .slots) (m .masks) (m .book)) i (pointOf v)) (reached n (m .slots) (m .masks) (m .book) h (pointOf v) 3 (2 ∷ 2 ∷ []) i)
+  where
+    go : (r : Reach) → Reached r → finiteE (floated r) ≡ true
+    go (active l w) g = g .1
+    go (hidden l w) g = g .1
+    go broken g = refl
+
+-- ---- a memory whose lengths belong together, for n cells
+
+module _ (m : Mem) (n : ℕ) (h : Counted n m) (z : n ≡ 0 → ⊥) where
+  -- the sign at a point of seat i, by the end e of the walk there and the seat's mark
+  pub sign-says : Short (m .slots) → (i v : ℕ) (p : Point) {e : Ends} {r : Whether} → i ≤ 7 → v ≡ voxelOf p
+      → e ≡ floated (reachS 3 (2 ∷ 2 ∷ []) n (st n (m .slots) (m .masks) (m .book)) i (pointOf v)) → r ≡ signedE e (eqb (getD (m .book) i 0) 1)
+      → Says whetherOf (One i (Sign p)) m r m
+  sign-says w i v p l d a b =
+      subst (λ (r : Whether). Says whetherOf (One i (Sign p)) m r m) (sym (b ∙ ap₂ signedE (a ∙ ap floated (is-walk m n h z i v p d)) filled))
+      (go (walk m i p) (eqb (poolOf m .mark i) 1) refl refl (subst Reached (is-walk m n h z i v p d) (reached n (m .slots) (m .masks) (m .book) w (pointOf v) 3 (2 ∷ 2 ∷ []) i)))
+    where
+      filled : eqb (getD (m .book) i 0) 1 ≡ eqb (poolOf m .mark i) 1
+      filled = ap (λ (k : ℕ). eqb k 1) (sym (st-mark n (m .slots) (m .masks) (m .book) i (omega arith)) ∙ ap (λ (s : St). s .mark i) (is-pool m n h z))
+
+      back : (u : ℕ) → (u < 0x1_0000_0000) × (isFinite u ≡ true) → signedE (floated (active 0 u)) true ≡ whether.Is (negative u)
+      back u g = ap (λ (x : ℕ). whether.Is (negative x)) (word-value u (g .0) (g .1))
+
+      go : (r : Reach) (f : Bool) → walk m i p ≡ r → eqb (poolOf m .mark i) 1 ≡ f → Reached r → Says whetherOf (One i (Sign p)) m (signedE (floated r) f) m
+      go (active k u) true e q g = (negativeIs (negative u), back u g, rw (is-fit m n h z, lt-leb 8 i (omega arith), e, q) (refl, refl))
+      go (active k u) false e q g = (refused 6, refl, rw (is-fit m n h z, lt-leb 8 i (omega arith), e, q) (refl, refl))
+      go (hidden k u) true e q g = (negativeIs (negative u), back u g, rw (is-fit m n h z, lt-leb 8 i (omega arith), e, q) (refl, refl))
+      go (hidden k u) false e q g = (refused 6, refl, rw (is-fit m n h z, lt-leb 8 i (omega arith), e, q) (refl, refl))
+      go broken f e q g = (refused 5, refl, rw (is-fit m n h z, lt-leb 8 i (omega arith), e) (refl, refl))
+
+  -- a call that tests the whole pool: t is what the test said
+  module _ (t : Bool) (e : t ≡ soundB n (st n (m .slots) (m .masks) (m .book))) where
+    tested : t ≡ soundB (cellsOf m) (poolOf m)
+    tested = e ∙ ap₂ soundB (is-cells m n h z) (is-pool m n h z)
+
+    -- refusal 5, of any call that tests the whole pool, where no refusal before it holds
+    pub tested-5 : {R : Type 0} (f : Answer → R) (c : Call) → any (λ i. leb 8 i) (names c) ≡ false → alike (names c) ≡ false → asks c .given ≡ true → asks c .kind ≡ wholePool
+        → not t ≡ true → Says f c m (f (refused 5)) m
+    tested-5 f c a b g k o = (refused 5, refl, rw (is-fit m n h z, a, b, g, k, failed t tested o) (refl, refl))
+
+    module _ (o : not t ≡ false) where
+      pub count-says : (k : ℕ) → k ≡ getD (m .book) countPlace 0 → Says countOf Count m (free.Cells k) m
+      count-says k d =
+          let c : k ≡ poolOf m .count = d ∙ sym (st-count n (m .slots) (m .masks) (m .book)) ∙ ap (λ (s : St). s .count) (is-pool m n h z) in
+          (freeCells k, refl, rw (is-fit m n h z, passed t tested o) (ap freeCells c, refl))
+
+      pub empty-says : (i : ℕ) → i ≤ 7 → (r : Bool) → r ≡ isEmpty 3 (2 ∷ 2 ∷ []) (tree 3 (2 ∷ 2 ∷ []) (st n (m .slots) (m .masks) (m .book)) i)
+          → Says whetherOf (One i IsEmpty) m (whether.Is r) m
+      empty-says i l r d =
+          let f = is-fit m n h z in
+          let s = mem-sound m f (passed t tested o) in
+          let g : r ≡ isEmpty 3 (2 ∷ 2 ∷ []) (seatOf m i .grid) =
+          d ∙ ap (λ (s : St). isEmpty 3 (2 ∷ 2 ∷ []) (tree 3 (2 ∷ 2 ∷ []) s i)) (is-pool m n h z)
+          ∙ sym (ap (λ (x : Seat 3 (2 ∷ 2 ∷ [])). isEmpty 3 (2 ∷ 2 ∷ []) (x .grid)) (seat-is m s i (omega arith)))
+          in
+          (emptyIs r, refl, rw (f, lt-leb 8 i (omega arith), passed t tested o) (ap emptyIs g, refl))

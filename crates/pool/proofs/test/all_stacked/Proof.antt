@@ -1,0 +1,62 @@
+use Prim.Native.Nat.{ℕ, _-_, _≤_, _<_}
+use mathlib.Core.Path.{_≡_}
+use mathlib.Core.Bool.{true}
+use mathlib.Core.List.{List}
+use native.Mathlib.Omega.{arith}
+use lib.ListN.{getD}
+use borrow.Author.Count.{below-none, below-more}
+use borrow.Author.Needs.{needs}
+use Rattle.nodes.specs.Layout.{st}
+use Rattle.nodes.specs.Test.{stackedB}
+use Rattle.pool.proofs.Checks.{passed, failed, all-pass, one-fails}
+use Rattle.pool.proofs.test.all_stacked.Statement.{statement}
+use Rattle.pool.proofs.test.all_stacked.Tie as tie
+
+abbrev Inv-loop : tie.InvT-loop
+Inv-loop book n m i₀ i = (i ≤ getD book 8 0) × ((slots masks : List ℕ) (k : ℕ) → k < i → stackedB n (st n slots masks book) k ≡ true)
+
+abbrev μ-loop : tie.MeasureT-loop
+μ-loop book n m i₀ i = getD book 8 0 - i
+
+shared-slice-read-place : tie.Need-shared-slice-read-place Inv-loop μ-loop
+shared-slice-read-place c = omega arith
+
+place-requires : tie.Need-place-requires Inv-loop μ-loop
+place-requires c κs = search needs
+
+loop-holds : tie.Need-loop-holds Inv-loop μ-loop
+loop-holds c = (omega arith, λ slots masks. below-none _)
+
+stacked-requires : tie.Need-stacked-requires Inv-loop μ-loop
+stacked-requires c κs = search needs
+
+returns : tie.Need-returns Inv-loop μ-loop
+returns c slots masks = one-fails _ _ (c .before .before .before .loop .i) (omega arith) (failed _ (c .before .stacked .ensures slots masks) (c .if1 .taken))
+
+add-i : tie.Need-add-i Inv-loop μ-loop
+add-i c = omega arith
+
+loop-less : tie.Need-loop-less Inv-loop μ-loop
+loop-less c = omega arith
+
+loop-again : tie.Need-loop-again Inv-loop μ-loop
+loop-again c = (omega arith, λ slots masks. below-more _ _ (c .before .before .before .loop .inv .1 slots masks) (passed _ (c .before .stacked .ensures slots masks) (c .if1 .left)))
+
+returns-2 : tie.Need-returns-2 Inv-loop μ-loop
+returns-2 c slots masks = all-pass _ _ (c .before .loop .i) (omega arith) (c .before .loop .inv .1 slots masks)
+
+pub all-stacked-spec : {M : Type 1} → statement M
+all-stacked-spec =
+    tie.close
+    (tie.spec
+    Inv-loop
+    μ-loop
+    shared-slice-read-place
+    place-requires
+    loop-holds
+    stacked-requires
+    returns
+    add-i
+    loop-less
+    loop-again
+    returns-2)

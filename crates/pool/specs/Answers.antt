@@ -1,0 +1,108 @@
+-- What the functions of this crate answer: for each case of an answer of document 01 the case of the enum, with its number and value. Assumes nothing.
+use mathlib.Core.Path.{_≡_}
+use mathlib.Core.Bool.{Bool, true, false, cond}
+use mathlib.Core.List.{List, [], _∷_}
+use mathlib.Core.Option.{Option, none, some}
+use Prim.Native.Nat.{ℕ}
+use lib.Ieee.{Float, binary32, toBits}
+use lib.Ieee.Scale.{finite}
+use Rattle.floats.specs.Value.{value, negative}
+use Rattle.seats.specs.Call.{Call, Answer, refused, found, negativeIs, emptyIs, freeCells, done}
+use Rattle.seats.specs.Promise.{Promise}
+use lib.Dec.{leb}
+use Rattle.nodes.specs.State.{St}
+use Rattle.grid.specs.Geometry.{Point}
+use Rattle.nodes.specs.Walk.{reachS, floated, needInsertR, needRemoveR}
+use Rattle.means.specs.Mem.{Mem, linked}
+use Rattle.nodes.specs.declared.walk.Ends.{Ends}
+use Rattle.nodes.specs.declared.walk.Ends.the-variants.{Active, Hidden, Broken}
+use Rattle.pool.specs.Lent.{lent}
+use Rattle.pool.specs.declared.voxel.Found.{Found}
+use Rattle.pool.specs.declared.voxel.Found.the-variants.{Value, Nothing, Refused}
+use Rattle.pool.specs.declared.whole.Free.{Free}
+use Rattle.pool.specs.declared.whole.Free.the-variants as free
+use Rattle.pool.specs.declared.whole.Whether.{Whether}
+use Rattle.pool.specs.declared.whole.Whether.the-variants as whether
+
+abbrev pub memOf : List ℕ → List ℕ → List ℕ → Mem
+memOf slots masks book = record { slots = slots; masks = masks; book = book }
+
+-- r is the form f of an answer that the promise of the call c allows
+abbrev pub Says : {R : Type 0} → (Answer → R) → Call → Mem → R → Mem → Type 0
+Says f c m r m' = (a : Answer) × (r ≡ f a) × Promise 3 (2 ∷ 2 ∷ []) lent c m a m'
+
+-- a lookup: the value as a float, nothing, or the number of a refusal; no other answer occurs
+abbrev pub foundOf : Answer → Found
+foundOf (refused n) = Refused n
+foundOf (found none) = Nothing
+foundOf (found (some w)) = Value (value w)
+foundOf (negativeIs k) = Nothing
+foundOf (emptyIs k) = Nothing
+foundOf (freeCells k) = Nothing
+foundOf done = Nothing
+
+-- done is 0, and a refusal its number
+abbrev pub codeOf : Answer → ℕ
+codeOf (refused n) = n
+codeOf (found o) = 0
+codeOf (negativeIs k) = 0
+codeOf (emptyIs k) = 0
+codeOf (freeCells k) = 0
+codeOf done = 0
+
+-- where a walk ended, as a lookup answers it
+abbrev pub shownE : Ends → Found
+shownE (Active l w) = Value w
+shownE (Hidden l w) = Nothing
+shownE Broken = Refused 5
+
+-- whether a call on one voxel that needs so many cells is refused at its end: 5 where the path is broken or a link among the free cells needed leaves the pool, then 9
+abbrev pub affordS : ℕ → St → ℕ → ℕ
+affordS n s need = cond (linked n s need) (cond (leb need (s .count)) 0 9) 5
+
+abbrev pub blockedE : ℕ → St → Ends → ℕ → ℕ
+blockedE n s (Active l w) need = affordS n s need
+blockedE n s (Hidden l w) need = affordS n s need
+blockedE n s Broken need = 5
+
+-- of an insert of the word w at the point p of seat i, and of a remove
+abbrev pub insertBlocked : ℕ → St → Point → ℕ → ℕ → ℕ
+insertBlocked n s p w i = let q = reachS 3 (2 ∷ 2 ∷ []) n s i p in blockedE n s (floated q) (needInsertR q w)
+
+abbrev pub removeBlocked : ℕ → St → Point → ℕ → ℕ
+removeBlocked n s p i = let q = reachS 3 (2 ∷ 2 ∷ []) n s i p in blockedE n s (floated q) (needRemoveR q)
+
+-- ---- the calls on the pool, and those that only read a seat
+
+-- a count of the free cells: their number, or the number of a refusal; no other answer occurs
+abbrev pub countOf : Answer → Free
+countOf (refused n) = free.Refused n
+countOf (found o) = free.Cells 0
+countOf (negativeIs k) = free.Cells 0
+countOf (emptyIs k) = free.Cells 0
+countOf (freeCells k) = free.Cells k
+countOf done = free.Cells 0
+
+-- a question about a seat, its sign at a point or whether it is empty: yes or no, or the number of a refusal; no other answer occurs
+abbrev pub whetherOf : Answer → Whether
+whetherOf (refused n) = whether.Refused n
+whetherOf (found o) = whether.Is false
+whetherOf (negativeIs k) = whether.Is k
+whetherOf (emptyIs k) = whether.Is k
+whetherOf (freeCells k) = whether.Is false
+whetherOf done = whether.Is false
+
+-- the number at the end of a walk is finite
+abbrev pub finiteE : Ends → Bool
+finiteE (Active l x) = finite x
+finiteE (Hidden l x) = finite x
+finiteE Broken = true
+
+-- the sign of the number x, and that at the end of a walk, in a seat that is filled or not
+abbrev pub signedF : Float → Bool → Whether
+signedF x filled = cond filled (whether.Is (negative (toBits binary32 x))) (whether.Refused 6)
+
+abbrev pub signedE : Ends → Bool → Whether
+signedE (Active l x) filled = signedF x filled
+signedE (Hidden l x) filled = signedF x filled
+signedE Broken filled = whether.Refused 5

@@ -1,0 +1,65 @@
+// Preparing: every cell is freed, and every seat emptied. What a free cell holds is never read, so no word of a cell is written, and the cost is that of eight tops and
+// of the book.
+ghost use mathlib.Core.Path.{_≡_};
+ghost use Prim.Native.Nat.{ℕ, _+_, _*_, _≤_, _<_};
+ghost use lib.ListN.{length, getD};
+ghost use Rattle.nodes.specs.Layout.{Sized, st};
+ghost use Rattle.nodes.specs.Range.{Booked};
+ghost use Rattle.means.specs.Prepared.{Ready};
+ghost use Rattle.pool.specs.Runs.{Run, Emptied, Freed};
+
+// The len words from lo on become w.
+fn fill(ws: &mut [u32], lo: usize, len: usize, w: u32)
+    requires { ⌜ lo + len ≤ length (now ws) ⌝ }
+    ensures { λ _. ⌜ Run lo len (λ i. w) (now (ws .entry)) (now (ws .exit)) ⌝ }
+{
+    let mut i = 0;
+    while i < len {
+        ws[lo + i] = w;
+        i += 1;
+    }
+}
+
+// The len words from lo on become 0, 1, 2 and so on.
+fn count_up(ws: &mut [u32], lo: usize, len: usize)
+    requires { ⌜ (lo + len ≤ length (now ws)) × (len < 65536) ⌝ }
+    ensures { λ _. ⌜ Run lo len (λ i. i) (now (ws .entry)) (now (ws .exit)) ⌝ }
+{
+    let mut i = 0;
+    while i < len {
+        ws[lo + i] = i as u32;
+        i += 1;
+    }
+}
+
+// No slot of a top is a branch or an active value: the words of the tops stand first among the child masks and first among the value masks.
+fn empty_tops(masks: &mut [u64], n: usize)
+    requires { ⌜ (n < 65536) × (length (now masks) ≡ 128 + 2 * n) ⌝ }
+    ensures { λ _. ⌜ Emptied n (now (masks .exit)) ⌝ }
+{
+    bitset::zeroes(&mut masks[0..64]);
+    let a = 64 + n;
+    let e = 128 + n;
+    bitset::zeroes(&mut masks[a..e]);
+}
+
+// No seat is marked, and every cell is free: cell c at place c of the stack, which its use mark says.
+fn free_all(book: &mut [u32], n: usize)
+    requires { ⌜ Booked n (now book) ⌝ }
+    ensures { λ _. ⌜ Freed n (now (book .exit)) ⌝ }
+{
+    fill(book, 0, 8, 0);
+    count_up(book, 9, n);
+    count_up(book, 9 + n, n);
+    book[8] = n as u32;
+}
+
+pub fn prepare(slots: &mut [u32], masks: &mut [u64], book: &mut [u32], n: usize)
+    requires { ⌜ Sized n (now slots) (now masks) (now book) ⌝ }
+    ensures ready { λ _. ⌜ Ready n (st n (now (slots .exit)) (now (masks .exit)) (now (book .exit))) ⌝ }
+    ensures kept { λ _. ⌜ ((i : ℕ) → 4096 ≤ i → getD (now (slots .exit)) i 0 ≡ getD (now (slots .entry)) i 0) ⌝ }
+{
+    fill(slots, 0, 4096, floats::far_word(false));
+    empty_tops(masks, n);
+    free_all(book, n);
+}

@@ -1,0 +1,262 @@
+// The test that a pool is sound. Each mark, each place of the stack, each cell and each slot that counts is looked at once, and nothing is trusted: a use mark, a place
+// of the stack and a link are each below the pool's bounds before they are used as a place. The two ends of a link, and those of a place of the stack, have to name each
+// other, so no second pass over the cells is needed.
+ghost use mathlib.Core.Path.{_≡_};
+ghost use mathlib.Core.List.{List};
+ghost use Prim.Native.Nat.{ℕ, _+_, _*_, _≤_, _<_};
+ghost use lib.ListN.{length, getD};
+ghost use lib.Dec.{ltb};
+ghost use Rattle.bitset.specs.Set.{every};
+ghost use Rattle.nodes.specs.State.{wide};
+ghost use Rattle.nodes.specs.Layout.{Sized, st};
+ghost use Rattle.nodes.specs.Range.{Booked, In};
+ghost use Rattle.nodes.specs.Test.{forkB, liveB, stackedB, linkB, heldB, cellB, nodeB, soundB};
+ghost use Rattle.pool.specs.Slots.{valueB, eitherB};
+
+// A word as a number that may be a place.
+fn place(w: u32) -> usize
+    ensures { λ r. ⌜ r ≡ w ⌝ }
+{
+    w as usize
+}
+
+// The number of slots of node x.
+fn width(x: usize) -> usize
+    ensures { λ r. ⌜ r ≡ wide x ⌝ }
+{
+    if x < 8 { 512 } else { 64 }
+}
+
+// Each filled mark is 0 or 1.
+fn all_marks(book: &[u32]) -> bool
+    requires { ⌜ 8 ≤ length (now book) ⌝ }
+    ensures { λ r. ⌜ ((n : ℕ) (slots masks : List ℕ) → r ≡ every (λ t. ltb (st n slots masks (now (book .entry)) .mark t) 2) 8) ⌝ }
+{
+    let mut t = 0;
+    while t < 8 {
+        if 2 <= book[t] {
+            return false;
+        }
+        t += 1;
+    }
+    true
+}
+
+// Place i of the stack names a cell whose use mark is i.
+fn stacked(book: &[u32], n: usize, i: usize) -> bool
+    requires { ⌜ (Booked n (now book)) × (i < n) ⌝ }
+    ensures { λ r. ⌜ ((slots masks : List ℕ) → r ≡ stackedB n (st n slots masks (now (book .entry))) i) ⌝ }
+{
+    let c = place(book[9 + n + i]);
+    if n <= c {
+        return false;
+    }
+    place(book[9 + c]) == i
+}
+
+// Each place of the stack below the count of free cells.
+fn all_stacked(book: &[u32], n: usize) -> bool
+    requires { ⌜ (Booked n (now book)) × (getD (now book) 8 0 ≤ n) ⌝ }
+    ensures { λ r. ⌜ ((slots masks : List ℕ) → r ≡ every (stackedB n (st n slots masks (now (book .entry)))) (getD (now (book .entry)) 8 0)) ⌝ }
+{
+    let m = place(book[8]);
+    let mut i = 0;
+    while i < m {
+        if !stacked(book, n, i) {
+            return false;
+        }
+        i += 1;
+    }
+    true
+}
+
+// Node x may have branches: it is a top, or a cell that a top links to. A use mark from 65,536 on names a slot, and below 69,632 a slot of a top.
+fn forks(book: &[u32], n: usize, x: usize) -> bool
+    requires { ⌜ (Booked n (now book)) × (x < 8 + n) ⌝ }
+    ensures { λ r. ⌜ ((slots masks : List ℕ) → r ≡ forkB (st n slots masks (now (book .entry))) x) ⌝ }
+{
+    if x < 8 {
+        return true;
+    }
+    let u = book[9 + (x - 8)];
+    65536 <= u && u < 69632
+}
+
+// Node x counts: it is a top or a used cell.
+fn lives(book: &[u32], n: usize, x: usize) -> bool
+    requires { ⌜ (Booked n (now book)) × (x < 8 + n) ⌝ }
+    ensures { λ r. ⌜ ((slots masks : List ℕ) → r ≡ liveB (st n slots masks (now (book .entry))) x) ⌝ }
+{
+    if x < 8 {
+        return true;
+    }
+    65536 <= book[9 + (x - 8)]
+}
+
+// The use mark u, of 65,536 or more, of cell c names a slot that may be a branch, is one, and links to c.
+fn held(slots: &[u32], masks: &[u64], book: &[u32], n: usize, c: usize, u: usize) -> bool
+    requires { ⌜ (Sized n (now slots) (now masks) (now book)) × (65536 ≤ u) ⌝ }
+    ensures { λ r. ⌜ r ≡ heldB n (st n (now (slots .entry)) (now (masks .entry)) (now (book .entry))) c u ⌝ }
+{
+    let x = (u - 65536) / 512;
+    let k = (u - 65536) % 512;
+    if 8 + n <= x {
+        return false;
+    }
+    if width(x) <= k {
+        return false;
+    }
+    if !forks(book, n, x) {
+        return false;
+    }
+    if !nodes::memory::kid(masks, x, k) {
+        return false;
+    }
+    place(nodes::memory::word(slots, x, k)) == c
+}
+
+// Cell c is free at the place of the stack that its use mark names, or linked to by the slot that it names.
+fn cell(slots: &[u32], masks: &[u64], book: &[u32], n: usize, c: usize) -> bool
+    requires { ⌜ (Sized n (now slots) (now masks) (now book)) × (getD (now book) 8 0 ≤ n) × (c < n) ⌝ }
+    ensures { λ r. ⌜ r ≡ cellB n (st n (now (slots .entry)) (now (masks .entry)) (now (book .entry))) c ⌝ }
+{
+    let u = place(book[9 + c]);
+    if 65536 <= u {
+        return held(slots, masks, book, n, c, u);
+    }
+    if place(book[8]) <= u {
+        return false;
+    }
+    place(book[9 + n + u]) == c
+}
+
+// Each cell is free or linked to, as its use mark says.
+fn all_cells(slots: &[u32], masks: &[u64], book: &[u32], n: usize) -> bool
+    requires { ⌜ (Sized n (now slots) (now masks) (now book)) × (getD (now book) 8 0 ≤ n) ⌝ }
+    ensures { λ r. ⌜ r ≡ every (cellB n (st n (now (slots .entry)) (now (masks .entry)) (now (book .entry)))) n ⌝ }
+{
+    let mut c = 0;
+    while c < n {
+        if !cell(slots, masks, book, n, c) {
+            return false;
+        }
+        c += 1;
+    }
+    true
+}
+
+// The branch at slot k of node x links to a cell of the pool whose use mark names the slot, and is no active value.
+fn link(slots: &[u32], masks: &[u64], book: &[u32], n: usize, x: usize, k: usize) -> bool
+    requires { ⌜ (Sized n (now slots) (now masks) (now book)) × (In n x k) ⌝ }
+    ensures { λ r. ⌜ r ≡ linkB n (st n (now (slots .entry)) (now (masks .entry)) (now (book .entry))) x k ⌝ }
+{
+    let c = place(nodes::memory::word(slots, x, k));
+    if n <= c {
+        return false;
+    }
+    if place(book[9 + c]) != 65536 + (512 * x + k) {
+        return false;
+    }
+    !nodes::memory::val(masks, n, x, k)
+}
+
+// Slot k of node x holds a finite value.
+fn value(slots: &[u32], n: usize, x: usize, k: usize) -> bool
+    requires { ⌜ (n < 65536) × (length (now slots) ≡ 4096 + 64 * n) × (In n x k) ⌝ }
+    ensures { λ r. ⌜ ((masks book : List ℕ) → r ≡ valueB (st n (now (slots .entry)) masks book) x k) ⌝ }
+{
+    floats::finite_word(nodes::memory::word(slots, x, k))
+}
+
+// Slot k of node x, which may have branches.
+fn either(slots: &[u32], masks: &[u64], book: &[u32], n: usize, x: usize, k: usize) -> bool
+    requires { ⌜ (Sized n (now slots) (now masks) (now book)) × (In n x k) ⌝ }
+    ensures { λ r. ⌜ r ≡ eitherB n (st n (now (slots .entry)) (now (masks .entry)) (now (book .entry))) x k ⌝ }
+{
+    if nodes::memory::kid(masks, x, k) {
+        return link(slots, masks, book, n, x, k);
+    }
+    value(slots, n, x, k)
+}
+
+// The slots of a node that may have branches.
+fn branches(slots: &[u32], masks: &[u64], book: &[u32], n: usize, x: usize) -> bool
+    requires { ⌜ (Sized n (now slots) (now masks) (now book)) × (x < 8 + n) ⌝ }
+    ensures { λ r. ⌜ r ≡ every (eitherB n (st n (now (slots .entry)) (now (masks .entry)) (now (book .entry))) x) (wide x) ⌝ }
+{
+    let m = width(x);
+    let mut k = 0;
+    while k < m {
+        if !either(slots, masks, book, n, x, k) {
+            return false;
+        }
+        k += 1;
+    }
+    true
+}
+
+// The slots of a node that has values alone.
+fn values(slots: &[u32], n: usize, x: usize) -> bool
+    requires { ⌜ (n < 65536) × (length (now slots) ≡ 4096 + 64 * n) × (x < 8 + n) ⌝ }
+    ensures { λ r. ⌜ ((masks book : List ℕ) → r ≡ every (valueB (st n (now (slots .entry)) masks book) x) (wide x)) ⌝ }
+{
+    let m = width(x);
+    let mut k = 0;
+    while k < m {
+        if !value(slots, n, x, k) {
+            return false;
+        }
+        k += 1;
+    }
+    true
+}
+
+// Node x. What a free cell holds does not matter, so none of its slots is read.
+fn node(slots: &[u32], masks: &[u64], book: &[u32], n: usize, x: usize) -> bool
+    requires { ⌜ (Sized n (now slots) (now masks) (now book)) × (x < 8 + n) ⌝ }
+    ensures { λ r. ⌜ r ≡ nodeB n (st n (now (slots .entry)) (now (masks .entry)) (now (book .entry))) x ⌝ }
+{
+    if forks(book, n, x) {
+        return branches(slots, masks, book, n, x);
+    }
+    if lives(book, n, x) {
+        return values(slots, n, x);
+    }
+    true
+}
+
+// Each slot of each node that counts.
+fn all_nodes(slots: &[u32], masks: &[u64], book: &[u32], n: usize) -> bool
+    requires { ⌜ Sized n (now slots) (now masks) (now book) ⌝ }
+    ensures { λ r. ⌜ r ≡ every (nodeB n (st n (now (slots .entry)) (now (masks .entry)) (now (book .entry)))) (8 + n) ⌝ }
+{
+    let m = 8 + n;
+    let mut x = 0;
+    while x < m {
+        if !node(slots, masks, book, n, x) {
+            return false;
+        }
+        x += 1;
+    }
+    true
+}
+
+// The whole pool. The count comes first: no place of the stack is read where it is above the number of cells.
+pub fn sound(slots: &[u32], masks: &[u64], book: &[u32], n: usize) -> bool
+    requires { ⌜ Sized n (now slots) (now masks) (now book) ⌝ }
+    ensures { λ r. ⌜ r ≡ soundB n (st n (now (slots .entry)) (now (masks .entry)) (now (book .entry))) ⌝ }
+{
+    if n < place(book[8]) {
+        return false;
+    }
+    if !all_marks(book) {
+        return false;
+    }
+    if !all_stacked(book, n) {
+        return false;
+    }
+    if !all_cells(slots, masks, book, n) {
+        return false;
+    }
+    all_nodes(slots, masks, book, n)
+}

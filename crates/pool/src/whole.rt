@@ -1,0 +1,125 @@
+// Preparing and counting the pool, and the calls that only read a seat. Preparing alone changes memory, and only once the lengths are known to belong together.
+use super::lengths;
+use super::test;
+use nodes::walk;
+use nodes::walk::Ends;
+ghost use mathlib.Core.Path.{_≡_};
+ghost use mathlib.Core.Bool.{true};
+ghost use mathlib.Core.List.{List, [], _∷_};
+ghost use Prim.Native.Nat.{ℕ, _+_, _*_, _<_};
+ghost use lib.ListN.{length};
+ghost use lib.Ieee.Scale.{finite};
+ghost use Rattle.grid.specs.Geometry.{Point};
+ghost use Rattle.grid.specs.Whole.{isEmpty};
+ghost use Rattle.seats.specs.Call.{One, Sign, IsEmpty, Prepare, Count};
+ghost use Rattle.nodes.specs.State.{tree};
+ghost use Rattle.nodes.specs.Layout.{st};
+ghost use Rattle.means.proofs.Points.{voxelOf};
+ghost use Rattle.pool.specs.Answers.{memOf, Says, codeOf, countOf, whetherOf, finiteE, signedF, signedE};
+
+// Every cell is freed and every seat emptied, whatever the memory held. Answers 0, or 1 where the lengths do not belong together.
+pub fn prepare(slots: &mut [u32], masks: &mut [u64], book: &mut [u32]) -> u32
+    ensures { λ r. ⌜ Says codeOf Prepare (memOf (now (slots .entry)) (now (masks .entry)) (now (book .entry))) r (memOf (now (slots .exit)) (now (masks .exit)) (now (book .exit))) ⌝ }
+{
+    let n = lengths::cells(slots.len(), masks.len(), book.len());
+    if n == 0 {
+        return 1;
+    }
+    super::prepare::prepare(slots, masks, book, n);
+    0
+}
+
+// What a count of the free cells answers.
+pub enum Free {
+    Cells(u32),
+    Refused(u32),
+}
+
+// The free cells. The recorded count is a true one, since the pool was tested.
+pub fn count(slots: &[u32], masks: &[u64], book: &[u32]) -> Free
+    ensures { λ r. ⌜ Says countOf Count (memOf (now (slots .entry)) (now (masks .entry)) (now (book .entry))) r (memOf (now (slots .entry)) (now (masks .entry)) (now (book .entry))) ⌝ }
+{
+    let n = lengths::cells(slots.len(), masks.len(), book.len());
+    if n == 0 {
+        return Free::Refused(1);
+    }
+    if !test::sound(slots, masks, book, n) {
+        return Free::Refused(5);
+    }
+    Free::Cells(book[8])
+}
+
+// What a question about a seat answers.
+pub enum Whether {
+    Is(bool),
+    Refused(u32),
+}
+
+// Both masks of the top of seat t are empty: no slot of it is a branch or an active tile. A top has 8 words in each mask, and the tops come first.
+fn both_empty(masks: &[u64], n: usize, t: usize) -> bool
+    requires { ⌜ (n < 65536) × (length (now masks) ≡ 128 + 2 * n) × (t < 8) ⌝ }
+    ensures { λ r. ⌜ ((slots book : List ℕ) → r ≡ isEmpty 3 (2 ∷ 2 ∷ []) (tree 3 (2 ∷ 2 ∷ []) (st n slots (now (masks .entry)) book) t)) ⌝ }
+{
+    let a = 8 * t;
+    if !bitset::is_empty(&masks[a..a + 8], 512) {
+        return false;
+    }
+    let b = 64 + n + a;
+    bitset::is_empty(&masks[b..b + 8], 512)
+}
+
+// Whether a seat is empty: a look at the masks of its top, once the whole pool is known to be sound.
+pub fn is_empty(slots: &[u32], masks: &[u64], book: &[u32], seat: u32) -> Whether
+    ensures { λ r. ⌜ Says whetherOf (One seat IsEmpty) (memOf (now (slots .entry)) (now (masks .entry)) (now (book .entry))) r (memOf (now (slots .entry)) (now (masks .entry)) (now (book .entry))) ⌝ }
+{
+    let n = lengths::cells(slots.len(), masks.len(), book.len());
+    if n == 0 {
+        return Whether::Refused(1);
+    }
+    if 7 < seat {
+        return Whether::Refused(2);
+    }
+    if !test::sound(slots, masks, book, n) {
+        return Whether::Refused(5);
+    }
+    Whether::Is(both_empty(masks, n, seat as usize))
+}
+
+// Whether the float x reached in a seat is negative, which only a filled seat tells. -0 is negative, so the sign bit is looked at and no number compared.
+fn signed(x: f32, filled: bool) -> Whether
+    requires { ⌜ finite x ≡ true ⌝ }
+    ensures { λ r. ⌜ r ≡ signedF x filled ⌝ }
+{
+    if filled {
+        return Whether::Is(floats::negative_word(floats::word_of(x)));
+    }
+    Whether::Refused(6)
+}
+
+// The same at the end of a walk, active or hidden. A broken path is refused first, filled or not.
+fn signed_end(e: Ends, filled: bool) -> Whether
+    requires { ⌜ finiteE e ≡ true ⌝ }
+    ensures { λ r. ⌜ r ≡ signedE e filled ⌝ }
+{
+    match e {
+        Ends::Active(_, x) => signed(x, filled),
+        Ends::Hidden(_, x) => signed(x, filled),
+        Ends::Broken => Whether::Refused(5),
+    }
+}
+
+// Whether the value at a voxel of a filled seat, active or hidden, is negative. A mark of 1 alone is set.
+pub fn sign(slots: &[u32], masks: &[u64], book: &[u32], seat: u32, v: usize) -> Whether
+    ensures { λ r. ⌜ ((p : Point) → v ≡ voxelOf p → Says whetherOf (One seat (Sign p)) (memOf (now (slots .entry)) (now (masks .entry)) (now (book .entry))) r (memOf (now (slots .entry)) (now (masks .entry)) (now (book .entry)))) ⌝ }
+{
+    let n = lengths::cells(slots.len(), masks.len(), book.len());
+    if n == 0 {
+        return Whether::Refused(1);
+    }
+    if 7 < seat {
+        return Whether::Refused(2);
+    }
+    let t = seat as usize;
+    let e = walk::reach(slots, masks, n, 2, t, v);
+    signed_end(e, book[t] == 1)
+}
