@@ -1,5 +1,5 @@
 //! Lays out one source tree of links: the given Rust files, unchanged, beside our stand-ins for the absent ones.
-//! Then tells the linker where the archive of our library is.
+//! Then tells the linker where the archives of our library are.
 
 use std::os::unix::fs::symlink;
 use std::path::{Path, PathBuf};
@@ -20,6 +20,9 @@ const GIVEN: [&str; 9] = [
 const STAND_INS: [&str; 5] =
     ["lib.rs", "data_structures/mod.rs", "helpers.rs", "voxel/mod.rs", "voxel/leaf_node/mod.rs"];
 
+/// The crates of our library whose calls are compared.
+const ARCHIVES: [&str; 2] = ["bitset_calls", "calls"];
+
 fn main() {
     let oracle = PathBuf::from(env::var("CARGO_MANIFEST_DIR").unwrap());
     let root = oracle.parent().unwrap();
@@ -29,7 +32,9 @@ fn main() {
     }
     link_all(&rust_folder(root).join("src"), &GIVEN, &tree);
     link_all(&oracle.join("stand_ins"), &STAND_INS, &tree);
-    link_archive(&root.join("target/archive"));
+    let archives = root.join("target/archive");
+    println!("cargo:rustc-link-search=native={}", archives.display());
+    ARCHIVES.iter().for_each(|name| link_archive(&archives, name));
 }
 
 /// The one variable that says where the Rust files are; a relative path counts from the repository's root.
@@ -48,10 +53,9 @@ fn link_all(from: &Path, files: &[&str], tree: &Path) {
     }
 }
 
-fn link_archive(folder: &Path) {
-    let archive = folder.join("libbitset_calls.a");
-    assert!(archive.is_file(), "no {}: run tools/archive bitset_calls", archive.display());
-    println!("cargo:rustc-link-search=native={}", folder.display());
-    println!("cargo:rustc-link-lib=static=bitset_calls");
+fn link_archive(folder: &Path, name: &str) {
+    let archive = folder.join(format!("lib{name}.a"));
+    assert!(archive.is_file(), "no {}: run tools/archive {name}", archive.display());
+    println!("cargo:rustc-link-lib=static={name}");
     println!("cargo:rerun-if-changed={}", archive.display());
 }

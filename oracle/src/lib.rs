@@ -1,5 +1,7 @@
 //! The Rust that is ported, built unchanged beside stand-ins, and the code that compares our library with it.
 
 pub mod bits;
+pub mod dice;
+pub mod grids;
 
 include!(concat!(env!("OUT_DIR"), "/source/lib.rs"));

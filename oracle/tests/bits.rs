@@ -1,6 +1,7 @@
 //! Every operation of our library's bit sets beside the Rust: all sets of 8 bits, and chosen and random sets of other sizes.
 
 use oracle::bits::*;
+use oracle::dice::Dice;
 use std::collections::BTreeMap;
 use std::io::Write;
 
@@ -229,31 +230,6 @@ fn samples<const N: usize, const W: usize>(dice: &mut Dice, random: usize) -> Ve
         }
     }
     sets
-}
-
-/// Random numbers by splitmix64, the same in each run.
-struct Dice(u64);
-
-impl Dice {
-    fn next(&mut self) -> u64 {
-        self.0 = self.0.wrapping_add(0x9E37_79B9_7F4A_7C15);
-        let mut z = self.0;
-        z = (z ^ z >> 30).wrapping_mul(0xBF58_476D_1CE4_E5B9);
-        z = (z ^ z >> 27).wrapping_mul(0x94D0_49BB_1331_11EB);
-        z ^ z >> 31
-    }
-
-    fn below(&mut self, bound: usize) -> usize {
-        (self.next() % bound as u64) as usize
-    }
-
-    fn words<const W: usize>(&mut self) -> [u64; W] {
-        std::array::from_fn(|_| self.next())
-    }
-
-    fn pick<T: Copy>(&mut self, from: &[T]) -> T {
-        from[self.below(from.len())]
-    }
 }
 
 fn shown<'a>(what: &str, run: impl FnOnce(&mut Run<'a>) -> Checked) {

@@ -1,0 +1,192 @@
+// The calls for C, on the three lent slices of a pool. Each takes numbers and slices alone and asks nothing of its caller: what does not fit is refused, and a refused
+// call has changed no lent word. A slice is a pointer and a count of elements in C, and a point is three signed coordinates, of which the low 7 bits count.
+use pool::seat;
+use pool::voxel;
+use pool::voxel::Found;
+use pool::whole;
+use pool::whole::Free;
+use pool::whole::Whether;
+ghost use mathlib.Core.Path.{_≡_};
+ghost use Rattle.seats.specs.Call.{One, Lookup, Sign, Insert, Remove, Fill, Clear, IsEmpty, Prepare, Count};
+ghost use Rattle.pool.specs.Answers.{memOf, Says, codeOf};
+ghost use Rattle.calls.specs.Forms.{pointAt, codeOnly, answerOf, answerF, countAnswerOf, countF, truthAnswerOf, truthF};
+
+// Code 0: found, and value is it. Codes 1 to 9: the refusal of that number. Code 10: nothing there. The value is +0 where the code is not 0.
+#[repr(C)]
+pub struct GridAnswer {
+    pub code: u32,
+    pub value: f32,
+}
+
+// Code 0: number is the answer, 1 for yes and 0 for no where it is one of the two. Codes 1 to 9: the refusal of that number, and number is 0.
+#[repr(C)]
+pub struct GridNumber {
+    pub code: u32,
+    pub number: u32,
+}
+
+fn without(code: u32) -> GridAnswer
+    ensures { λ r. ⌜ r ≡ codeOnly code ⌝ }
+{
+    GridAnswer {
+        code,
+        value: f32::from_bits(0),
+    }
+}
+
+fn answer(found: Found) -> GridAnswer
+    ensures { λ r. ⌜ r ≡ answerF found ⌝ }
+{
+    match found {
+        Found::Value(x) => GridAnswer { code: 0, value: x },
+        Found::Nothing => without(10),
+        Found::Refused(n) => without(n),
+    }
+}
+
+fn counted(free: Free) -> GridNumber
+    ensures { λ r. ⌜ r ≡ countF free ⌝ }
+{
+    match free {
+        Free::Cells(k) => GridNumber { code: 0, number: k },
+        Free::Refused(n) => GridNumber { code: n, number: 0 },
+    }
+}
+
+fn told(whether: Whether) -> GridNumber
+    ensures { λ r. ⌜ r ≡ truthF whether ⌝ }
+{
+    match whether {
+        Whether::Is(b) => GridNumber {
+            code: 0,
+            number: b as u32,
+        },
+        Whether::Refused(n) => GridNumber { code: n, number: 0 },
+    }
+}
+
+// Every cell is freed and every seat emptied, whatever the memory held.
+#[no_mangle]
+pub extern "C" fn yoldrick_prepare(slots: &mut [u32], masks: &mut [u64], book: &mut [u32]) -> u32
+    ensures { λ r. ⌜ Says codeOf Prepare (memOf (now (slots .entry)) (now (masks .entry)) (now (book .entry))) r (memOf (now (slots .exit)) (now (masks .exit)) (now (book .exit))) ⌝ }
+{
+    whole::prepare(slots, masks, book)
+}
+
+// The free cells of the pool.
+#[no_mangle]
+pub extern "C" fn yoldrick_free_cells(slots: &[u32], masks: &[u64], book: &[u32]) -> GridNumber
+    ensures { λ r. ⌜ Says countAnswerOf Count (memOf (now (slots .entry)) (now (masks .entry)) (now (book .entry))) r (memOf (now (slots .entry)) (now (masks .entry)) (now (book .entry))) ⌝ }
+{
+    counted(whole::count(slots, masks, book))
+}
+
+// Whether the seat has neither a branch nor an active tile.
+#[no_mangle]
+pub extern "C" fn yoldrick_is_empty(
+    slots: &[u32],
+    masks: &[u64],
+    book: &[u32],
+    seat: u32,
+) -> GridNumber
+    ensures { λ r. ⌜ Says truthAnswerOf (One seat IsEmpty) (memOf (now (slots .entry)) (now (masks .entry)) (now (book .entry))) r (memOf (now (slots .entry)) (now (masks .entry)) (now (book .entry))) ⌝ }
+{
+    told(whole::is_empty(slots, masks, book, seat))
+}
+
+// The value of the active tile or voxel at (x, y, z).
+#[no_mangle]
+pub extern "C" fn yoldrick_lookup(
+    slots: &[u32],
+    masks: &[u64],
+    book: &[u32],
+    seat: u32,
+    x: i32,
+    y: i32,
+    z: i32,
+) -> GridAnswer
+    ensures { λ r. ⌜ Says answerOf (One seat (Lookup (pointAt x y z))) (memOf (now (slots .entry)) (now (masks .entry)) (now (book .entry))) r (memOf (now (slots .entry)) (now (masks .entry)) (now (book .entry))) ⌝ }
+{
+    let v = nodes::geometry::voxel(x, y, z);
+    answer(voxel::lookup(slots, masks, book, seat, v))
+}
+
+// Whether the value at (x, y, z), active or hidden, is negative, in a seat that is filled.
+#[no_mangle]
+pub extern "C" fn yoldrick_sign(
+    slots: &[u32],
+    masks: &[u64],
+    book: &[u32],
+    seat: u32,
+    x: i32,
+    y: i32,
+    z: i32,
+) -> GridNumber
+    ensures { λ r. ⌜ Says truthAnswerOf (One seat (Sign (pointAt x y z))) (memOf (now (slots .entry)) (now (masks .entry)) (now (book .entry))) r (memOf (now (slots .entry)) (now (masks .entry)) (now (book .entry))) ⌝ }
+{
+    let v = nodes::geometry::voxel(x, y, z);
+    told(whole::sign(slots, masks, book, seat, v))
+}
+
+// The voxel at (x, y, z) becomes active with the value of these bits. They are not a float here, since the bits of a NaN are not kept by a float, and what is refused as
+// not finite is refused only after the lengths and the seat.
+#[no_mangle]
+pub extern "C" fn yoldrick_insert(
+    slots: &mut [u32],
+    masks: &mut [u64],
+    book: &mut [u32],
+    seat: u32,
+    x: i32,
+    y: i32,
+    z: i32,
+    bits: u32,
+) -> u32
+    ensures { λ r. ⌜ Says codeOf (One seat (Insert (pointAt x y z) bits)) (memOf (now (slots .entry)) (now (masks .entry)) (now (book .entry))) r (memOf (now (slots .exit)) (now (masks .exit)) (now (book .exit))) ⌝ }
+{
+    let v = nodes::geometry::voxel(x, y, z);
+    voxel::insert(slots, masks, book, seat, v, bits)
+}
+
+// The voxel at (x, y, z) is no longer active, and a branch that this leaves empty is released.
+#[no_mangle]
+pub extern "C" fn yoldrick_remove(
+    slots: &mut [u32],
+    masks: &mut [u64],
+    book: &mut [u32],
+    seat: u32,
+    x: i32,
+    y: i32,
+    z: i32,
+) -> u32
+    ensures { λ r. ⌜ Says codeOf (One seat (Remove (pointAt x y z))) (memOf (now (slots .entry)) (now (masks .entry)) (now (book .entry))) r (memOf (now (slots .exit)) (now (masks .exit)) (now (book .exit))) ⌝ }
+{
+    let v = nodes::geometry::voxel(x, y, z);
+    voxel::remove(slots, masks, book, seat, v)
+}
+
+// Every voxel of the seat becomes active with the value of these bits, and its cells are free.
+#[no_mangle]
+pub extern "C" fn yoldrick_fill(
+    slots: &mut [u32],
+    masks: &mut [u64],
+    book: &mut [u32],
+    seat: u32,
+    bits: u32,
+) -> u32
+    ensures { λ r. ⌜ Says codeOf (One seat (Fill bits)) (memOf (now (slots .entry)) (now (masks .entry)) (now (book .entry))) r (memOf (now (slots .exit)) (now (masks .exit)) (now (book .exit))) ⌝ }
+{
+    seat::fill(slots, masks, book, seat, bits)
+}
+
+// The seat is empty, and its cells are free.
+#[no_mangle]
+pub extern "C" fn yoldrick_clear(
+    slots: &mut [u32],
+    masks: &mut [u64],
+    book: &mut [u32],
+    seat: u32,
+) -> u32
+    ensures { λ r. ⌜ Says codeOf (One seat Clear) (memOf (now (slots .entry)) (now (masks .entry)) (now (book .entry))) r (memOf (now (slots .exit)) (now (masks .exit)) (now (book .exit))) ⌝ }
+{
+    seat::clear(slots, masks, book, seat)
+}

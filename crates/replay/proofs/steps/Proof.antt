@@ -1,0 +1,66 @@
+use Prim.Native.Nat.{_-_, _≤_}
+use mathlib.Core.Path.{_≡_}
+use lib.ListN.{length}
+use borrow.Author.Needs.{needs}
+use Rattle.replay.proofs.steps.Statement.{statement}
+use Rattle.replay.proofs.steps.Tie as tie
+use Rattle.replay.proofs.steps.Reads as reads
+use Rattle.replay.proofs.steps.Lts as lts
+use Rattle.replay.proofs.step.Reads as step-reads
+
+abbrev Inv-loop : tie.InvT-loop
+Inv-loop slots₀ masks₀ book₀ b n bad₀ i₀ slots masks book bad i = (i ≤ n) × ((bad ≤ i) × ((length slots ≡ length slots₀) × ((length masks ≡ length masks₀) × (length book ≡ length book₀))))
+
+abbrev μ-loop : tie.MeasureT-loop
+μ-loop slots₀ masks₀ book₀ b n bad₀ i₀ slots masks book bad i = n - i
+
+loop-holds : tie.Need-loop-holds Inv-loop μ-loop
+loop-holds c = search needs
+
+mul-step : tie.Need-mul-step Inv-loop μ-loop
+mul-step c = search needs
+
+step-requires : tie.Need-step-requires Inv-loop μ-loop
+step-requires c κs = search needs
+
+add-bad : tie.Need-add-bad Inv-loop μ-loop
+add-bad c = search needs
+
+add-i : tie.Need-add-i Inv-loop μ-loop
+add-i c = search needs
+
+loop-less : tie.Need-loop-less Inv-loop μ-loop
+loop-less c = search needs
+
+loop-again : tie.Need-loop-again Inv-loop μ-loop
+loop-again c = search needs
+
+same-length : tie.Need-same-length Inv-loop μ-loop
+same-length c = search needs
+
+same-length-2 : tie.Need-same-length-2 Inv-loop μ-loop
+same-length-2 c = search needs
+
+same-length-3 : tie.Need-same-length-3 Inv-loop μ-loop
+same-length-3 c = search needs
+
+returns : tie.Need-returns Inv-loop μ-loop
+returns c = search needs
+
+pub steps-spec : {M : Type 1} → statement M
+steps-spec =
+    tie.close
+    (tie.spec
+    Inv-loop
+    μ-loop
+    loop-holds
+    mul-step
+    step-requires
+    add-bad
+    add-i
+    loop-less
+    loop-again
+    same-length
+    same-length-2
+    same-length-3
+    returns)

@@ -1,0 +1,110 @@
+/* Voxel grids on lent memory: eight grids, the seats 0 to 7, share one pool of n cells, with n from 1 to 65535.
+
+   MEMORY. A pool is three arrays that the caller owns and lends to each call, whole:
+
+       slots   uint32_t   YOLDRICK_SLOTS(n)   4096 + 64 n
+       masks   uint64_t   YOLDRICK_MASKS(n)    128 +  2 n
+       book    uint32_t   YOLDRICK_BOOK(n)       9 +  2 n
+
+   An array is passed as a pointer and its count of elements (not of bytes), aligned as its type asks. What the arrays hold before yoldrick_prepare does not matter.
+   The library keeps no memory of its own and no pointer after a call, and has no lock: while a call that writes runs, no other call may run on the same arrays.
+   The three arrays must not overlap. No call can test this, and the promises do not cover it. A count is trusted: that many elements must be there. NULL is allowed
+   with the count 0, and is then refused with 1, as every set of counts that fits no n.
+
+   POINTS. A grid is 128 voxels a side. Coordinates are masked to their low 7 bits: -1 is 127, and 128 is 0. So every point is in the grid.
+
+   REFUSALS. Each call tests in the order of these numbers; one that is refused has changed no lent word. No input traps or runs on without an end.
+
+       1   the counts are not those of one n from 1 to 65535
+       2   a seat number is above 7
+       4   a given value is NaN or infinite
+       5   calls on one voxel: the path to it, or a free cell that is needed, is damaged; other calls but prepare: the pool is not sound
+       6   the sign is asked of a seat that is not filled
+       9   fewer free cells than needed
+
+   COST. 'A walk' is at most three slots, whatever n is. 'The whole pool' is each cell and slot once: the test that it is sound.
+
+   What each call answers, and every lent word after it but for docs/EXCEPTIONS.md, is proved (crates/calls); the costs are not. */
+
+#ifndef YOLDRICK_H
+#define YOLDRICK_H
+
+#include <stddef.h>
+#include <stdint.h>
+#include <string.h>
+
+#ifdef __cplusplus
+extern "C" {
+#endif
+
+#define YOLDRICK_SLOTS(n) (4096u + 64u * (n))
+#define YOLDRICK_MASKS(n) (128u + 2u * (n))
+#define YOLDRICK_BOOK(n) (9u + 2u * (n))
+
+/* Accepted, and the one code that is neither that nor a refusal. */
+#define YOLDRICK_DONE 0u
+#define YOLDRICK_NOTHING 10u
+
+/* code 0: value was found. 1 to 9: refused. 10: nothing there. The value is +0 where the code is not 0. */
+typedef struct {
+    uint32_t code;
+    float value;
+} yoldrick_answer;
+
+/* code 0: number is the answer. 1 to 9: refused, and number is 0. */
+typedef struct {
+    uint32_t code;
+    uint32_t number;
+} yoldrick_number;
+
+/* Frees every cell and empties every seat. Must come first; may come again at any time.
+   Refusals: 1. Cost: eight tops and the book; what a cell holds is not touched. */
+uint32_t yoldrick_prepare(uint32_t *slots, size_t slots_count, uint64_t *masks, size_t masks_count, uint32_t *book, size_t book_count);
+
+/* The number of free cells.
+   Refusals: 1, 5. Cost: the whole pool. */
+yoldrick_number yoldrick_free_cells(const uint32_t *slots, size_t slots_count, const uint64_t *masks, size_t masks_count, const uint32_t *book, size_t book_count);
+
+/* 1 if the seat has neither a branch nor an active tile, else 0.
+   Refusals: 1, 2, 5. Cost: the whole pool. */
+yoldrick_number yoldrick_is_empty(const uint32_t *slots, size_t slots_count, const uint64_t *masks, size_t masks_count, const uint32_t *book, size_t book_count, uint32_t seat);
+
+/* The value of the active tile or voxel at (x, y, z), or code 10.
+   Refusals: 1, 2, 5. Cost: a walk. */
+yoldrick_answer yoldrick_lookup(const uint32_t *slots, size_t slots_count, const uint64_t *masks, size_t masks_count, const uint32_t *book, size_t book_count, uint32_t seat, int32_t x, int32_t y, int32_t z);
+
+/* 1 if the value at (x, y, z), active or hidden, has its sign bit set (-0 has), else 0. The seat must be filled with signs.
+   Refusals: 1, 2, 5, 6. Cost: a walk. */
+yoldrick_number yoldrick_sign(const uint32_t *slots, size_t slots_count, const uint64_t *masks, size_t masks_count, const uint32_t *book, size_t book_count, uint32_t seat, int32_t x, int32_t y, int32_t z);
+
+/* The bits of a float, for yoldrick_insert and yoldrick_fill. A value is passed as bits so that a NaN, too, reaches the test of it as the very bits that the caller had. */
+static inline uint32_t yoldrick_bits(float value) {
+    uint32_t bits;
+    memcpy(&bits, &value, sizeof bits);
+    return bits;
+}
+
+/* The voxel at (x, y, z) becomes active with the value of these bits: yoldrick_bits(value). Under an active tile of an equal value no slot changes (the two zeros are
+   equal). Needs at most 2 free cells. The seat is no longer filled with signs. On a pool that is not sound an accepted insert promises only to end, to
+   stay inside the arrays, and to store no value that is not finite.
+   Refusals: 1, 2, 4, 5, 9. Cost: a walk, and the writing of the cells that it takes, at most 2. */
+uint32_t yoldrick_insert(uint32_t *slots, size_t slots_count, uint64_t *masks, size_t masks_count, uint32_t *book, size_t book_count, uint32_t seat, int32_t x, int32_t y, int32_t z, uint32_t bits);
+
+/* The voxel at (x, y, z) is no longer active. A branch that this leaves empty is released. Under an active tile the tile is first split, which needs at most 2 free
+   cells. Removing what is not there is accepted. The seat is no longer filled with signs. On a pool that is not sound as with an insert.
+   Refusals: 1, 2, 5, 9. Cost: a walk, and the writing of the cells that it takes, at most 2. */
+uint32_t yoldrick_remove(uint32_t *slots, size_t slots_count, uint64_t *masks, size_t masks_count, uint32_t *book, size_t book_count, uint32_t seat, int32_t x, int32_t y, int32_t z);
+
+/* Every voxel of the seat becomes active with the value of these bits: yoldrick_bits(value). All its cells are free then. The seat is no longer filled with signs.
+   Refusals: 1, 2, 4, 5. Cost: the whole pool, and the writing of the seat's top and of every cell that it gives back. */
+uint32_t yoldrick_fill(uint32_t *slots, size_t slots_count, uint64_t *masks, size_t masks_count, uint32_t *book, size_t book_count, uint32_t seat, uint32_t bits);
+
+/* The seat becomes empty, every slot of its top hidden with the largest finite value. All its cells are free then. The seat is no longer filled with signs.
+   Refusals: 1, 2, 5. Cost: as of a fill. */
+uint32_t yoldrick_clear(uint32_t *slots, size_t slots_count, uint64_t *masks, size_t masks_count, uint32_t *book, size_t book_count, uint32_t seat);
+
+#ifdef __cplusplus
+}
+#endif
+
+#endif
