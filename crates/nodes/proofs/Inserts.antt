@@ -1,15 +1,19 @@
 -- An insert, by what the code does at each slot. Assumes nothing.
 use mathlib.Core.Path.{_≡_, refl, sym, ap, _∙_, subst}
 use mathlib.Core.Bool.{Bool, true, false, cond, _&&_}
+use mathlib.Core.List.{[], _∷_}
 use Prim.Native.Nat.{ℕ, zero, suc, _+_, _-_, _<_, _≤_}
 use native.Mathlib.Omega.{arith}
 use lib.Dec.{ltb, leb}
 use borrow.Author.Tests.{lt-ltb, le-ltb, ltb-true}
 use Rattle.floats.specs.Value.{far}
 use Rattle.grid.specs.Geometry.{Point, slotOf}
+use types.Run.{OneOf, miss}
+use denote.Enum.Declared.{tagOf}
+use Rattle.nodes.proofs.walk.Slot.{the-type}
 use Rattle.nodes.specs.State.{St}
 use Rattle.nodes.specs.Change.{putS, attachS, next}
-use Rattle.nodes.specs.Insert.{growS, growR, stepS, stepR, onward}
+use Rattle.nodes.specs.Insert.{openS, openR, growS, growR, stepS, stepR, onward}
 use Rattle.nodes.specs.Walk.{branching, below, viewS, readyS, stays, grownM, insertAt, insertM}
 use Rattle.nodes.specs.declared.walk.Slot.{Slot}
 use Rattle.nodes.specs.declared.walk.Slot.the-variants.{Branch, Tile, Hidden}
@@ -27,30 +31,42 @@ module _ (n : ℕ) (s : St) {k : Bool} (e : k ≡ readyS n s) (x j u : ℕ) (a :
   unfolding growR growS
   grow-no h = (sym (rw (sym e ∙ h) refl), sym (rw (sym e ∙ h) refl))
 
--- ---- descend: its answer and the state that it leaves
+-- ---- open_up and descend: the answer and the state that is left
+
+module _ (n x k : ℕ) (s : St) where
+  pub open-branch : {t : Slot} {c : ℕ} → t ≡ Branch c → c < n → (Go c ≡ openR n s t) × (s ≡ openS n x k s t)
+  unfolding openR openS
+  open-branch {t} {c} e h = (sym (ap (openR n s) e ∙ rw (lt-ltb c n h) refl), sym (ap (openS n x k s) e))
+
+  pub open-out : {t : Slot} {c : ℕ} → t ≡ Branch c → n ≤ c → (Stop ≡ openR n s t) × (s ≡ openS n x k s t)
+  unfolding openR openS
+  open-out {t} {c} e h = (sym (ap (openR n s) e ∙ rw (le-ltb c n h) refl), sym (ap (openS n x k s) e))
+
+  pub open-else : (t : Slot) {v : ℕ} {r : Below} {s' : St} → OneOf (1 ∷ 2 ∷ []) (tagOf the-type t) → v ≡ far → r ≡ growR n s → s' ≡ growS n x k v false s
+      → (r ≡ openR n s t) × (s' ≡ openS n x k s t)
+  unfolding openR openS
+  open-else (Branch c) h f a b = absurd (miss (1 ∷ 2 ∷ []) 0 tt h)
+  open-else (Tile u) h f a b = (a, b ∙ ap (λ (v : ℕ). growS n x k v false s) f)
+  open-else (Hidden u) h f a b = (a, b ∙ ap (λ (v : ℕ). growS n x k v false s) f)
+
 abbrev pub Done : ℕ → ℕ → ℕ → ℕ → St → Slot → Below → St → Type 0
 Done n w x k s t r s' = (r ≡ stepR n w s t) × (s' ≡ stepS n w x k s t)
 
-module _ (n w x k : ℕ) (s : St) {t : Slot} where
-  pub step-branch : {c : ℕ} → t ≡ Branch c → c < n → Done n w x k s t (Go c) s
-  unfolding stepR stepS
-  step-branch {c} e h = (sym (ap (stepR n w s) e ∙ rw (lt-ltb c n h) refl), sym (ap (stepS n w x k s) e))
+module _ (n w x k : ℕ) (s : St) where
+  pub step-open : (t : Slot) {r : Below} {s' : St} → OneOf (0 ∷ 2 ∷ []) (tagOf the-type t) → r ≡ openR n s t → s' ≡ openS n x k s t → Done n w x k s t r s'
+  unfolding openR openS stepR stepS
+  step-open (Branch c) h a b = (a, b)
+  step-open (Tile u) h a b = absurd (miss (0 ∷ 2 ∷ []) 1 tt h)
+  step-open (Hidden u) h a b = (a, b)
 
-  pub step-out : {c : ℕ} → t ≡ Branch c → n ≤ c → Done n w x k s t Stop s
-  unfolding stepR stepS
-  step-out {c} e h = (sym (ap (stepR n w s) e ∙ rw (le-ltb c n h) refl), sym (ap (stepS n w x k s) e))
-
-  pub step-same : {u : ℕ} {b : Bool} → t ≡ Tile u → b ≡ stays u w → b ≡ true → Done n w x k s t Stop s
+  pub step-same : {t : Slot} {u : ℕ} {b : Bool} → t ≡ Tile u → b ≡ stays u w → b ≡ true → Done n w x k s t Stop s
   unfolding stepR stepS
   step-same e p q = (sym (ap (stepR n w s) e ∙ rw (sym p ∙ q) refl), sym (ap (stepS n w x k s) e ∙ rw (sym p ∙ q) refl))
 
-  pub step-tile : {u : ℕ} {b : Bool} {r : Below} {s' : St} → t ≡ Tile u → b ≡ stays u w → b ≡ false → r ≡ growR n s → s' ≡ growS n x k u true s → Done n w x k s t r s'
+  pub step-tile : {t : Slot} {u : ℕ} {b : Bool} {r : Below} {s' : St} → t ≡ Tile u → b ≡ stays u w → b ≡ false → r ≡ growR n s → s' ≡ growS n x k u true s
+      → Done n w x k s t r s'
   unfolding stepR stepS
   step-tile e p q a b = (a ∙ sym (ap (stepR n w s) e ∙ rw (sym p ∙ q) refl), b ∙ sym (ap (stepS n w x k s) e ∙ rw (sym p ∙ q) refl))
-
-  pub step-hidden : {u v : ℕ} {r : Below} {s' : St} → t ≡ Hidden u → v ≡ far → r ≡ growR n s → s' ≡ growS n x k v false s → Done n w x k s t r s'
-  unfolding stepR stepS
-  step-hidden e f a b = (a ∙ sym (ap (stepR n w s) e), b ∙ ap (λ (v : ℕ). growS n x k v false s) f ∙ sym (ap (stepS n w x k s) e))
 
 -- where an insert goes on, the cell is one of the pool's
 pub go-stop : {c : ℕ} → Go c ≡ Stop → ⊥

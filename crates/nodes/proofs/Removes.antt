@@ -1,7 +1,7 @@
 -- A remove, by what the code does at each slot and on the way back. Assumes nothing.
 use mathlib.Core.Path.{_≡_, refl, sym, ap, ap₂, _∙_, subst}
 use mathlib.Core.Bool.{Bool, true, false, not, cond, _&&_, and-true}
-use mathlib.Core.List.{List}
+use mathlib.Core.List.{List, [], _∷_}
 use Prim.Native.Nat.{ℕ, zero, suc, _+_, _-_, _*_, _<_, _≤_, _^_}
 use native.Mathlib.Nat.{not-suc-le-zero}
 use native.Mathlib.Omega.{arith}
@@ -13,6 +13,9 @@ use Rattle.bitset.proofs.Every.{none}
 use Rattle.bitset.proofs.Sets.{has-own}
 use Rattle.floats.specs.Value.{isFinite}
 use Rattle.grid.specs.Geometry.{Point, slotOf}
+use types.Run.{OneOf, miss}
+use denote.Enum.Declared.{tagOf}
+use Rattle.nodes.proofs.walk.Slot.{the-type}
 use Rattle.nodes.specs.State.{St}
 use Rattle.nodes.specs.Layout.{st, wordOf, valBit}
 use Rattle.nodes.specs.Change.{hideS, releaseS}
@@ -20,7 +23,7 @@ use Rattle.nodes.specs.Range.{In}
 use Rattle.nodes.specs.Steps.{roomS}
 use Rattle.nodes.specs.Insert.{growS, growR, onward}
 use Rattle.nodes.specs.Remove.{noneS, bareS, shutM, removeAt, removeM}
-use Rattle.nodes.specs.Split.{splitS, splitR}
+use Rattle.nodes.specs.Split.{goOnR, splitS, splitR}
 use Rattle.nodes.specs.Walk.{branching, below, viewS, grownM}
 use Rattle.nodes.specs.declared.walk.Slot.{Slot}
 use Rattle.nodes.specs.declared.walk.Slot.the-variants.{Branch, Tile, Hidden}
@@ -105,22 +108,25 @@ module _ (n x k l : ℕ) (s : St) {c : ℕ} (e : c ≡ s .slot x k) where
     shut-bare f q = q ∙ rw (lt-ltb (s .slot x k) n (subst (λ (i : ℕ). i < n) e h), at ∙ f) refl
 
 -- ---- split: its answer and the state that it leaves
+module _ (n : ℕ) where
+  pub go-branch : {t : Slot} {c : ℕ} → t ≡ Branch c → c < n → Go c ≡ goOnR n t
+  unfolding goOnR
+  go-branch {t} {c} e h = sym (ap (goOnR n) e ∙ rw (lt-ltb c n h) refl)
+
+  pub go-out : {t : Slot} {c : ℕ} → t ≡ Branch c → n ≤ c → Stop ≡ goOnR n t
+  unfolding goOnR
+  go-out {t} {c} e h = sym (ap (goOnR n) e ∙ rw (le-ltb c n h) refl)
+
+  pub go-else : (t : Slot) → OneOf (1 ∷ 2 ∷ []) (tagOf the-type t) → Stop ≡ goOnR n t
+  unfolding goOnR
+  go-else (Branch c) h = absurd (miss (1 ∷ 2 ∷ []) 0 tt h)
+  go-else (Tile u) h = refl
+  go-else (Hidden u) h = refl
+
 abbrev pub Parted : ℕ → ℕ → ℕ → St → Slot → Below → St → Type 0
 Parted n x k s t r s' = (r ≡ splitR n s t) × (s' ≡ splitS n x k s t)
 
 module _ (n x k : ℕ) (s : St) {t : Slot} where
-  pub split-branch : {c : ℕ} → t ≡ Branch c → c < n → Parted n x k s t (Go c) s
-  unfolding splitR splitS
-  split-branch {c} e h = (sym (ap (splitR n s) e ∙ rw (lt-ltb c n h) refl), sym (ap (splitS n x k s) e))
-
-  pub split-out : {c : ℕ} → t ≡ Branch c → n ≤ c → Parted n x k s t Stop s
-  unfolding splitR splitS
-  split-out {c} e h = (sym (ap (splitR n s) e ∙ rw (le-ltb c n h) refl), sym (ap (splitS n x k s) e))
-
-  pub split-hidden : {u : ℕ} → t ≡ Hidden u → Parted n x k s t Stop s
-  unfolding splitR splitS
-  split-hidden e = (sym (ap (splitR n s) e), sym (ap (splitS n x k s) e))
-
   module _ {u : ℕ} {b : Bool} (e : t ≡ Tile u) (p : b ≡ isFinite u) where
     pub split-no : b ≡ false → Parted n x k s t Stop s
     unfolding splitR splitS
@@ -129,6 +135,12 @@ module _ (n x k : ℕ) (s : St) {t : Slot} where
     pub split-tile : b ≡ true → {r : Below} {s' : St} → r ≡ growR n s → s' ≡ growS n x k u true s → Parted n x k s t r s'
     unfolding splitR splitS
     split-tile q a d = (a ∙ sym (ap (splitR n s) e ∙ rw (sym p ∙ q) refl), d ∙ sym (ap (splitS n x k s) e ∙ rw (sym p ∙ q) refl))
+
+pub split-other : (n x k : ℕ) (s : St) (t : Slot) {r : Below} → OneOf (0 ∷ 2 ∷ []) (tagOf the-type t) → r ≡ goOnR n t → Parted n x k s t r s
+unfolding goOnR splitR splitS
+split-other n x k s (Branch c) h a = (a, refl)
+split-other n x k s (Tile u) h a = absurd (miss (0 ∷ 2 ∷ []) 1 tt h)
+split-other n x k s (Hidden u) h a = (a, refl)
 
 -- where a remove goes on, the cell is one of the pool's
 pub split-low : (n : ℕ) (s : St) (t : Slot) {c : ℕ} → Go c ≡ splitR n s t → c < n

@@ -18,6 +18,17 @@ growS n x k u a s = cond (readyS n s) (attachS x k u a s) s
 unfoldable pub growR : ℕ → St → Below
 growR n s = cond (readyS n s) (Go (next s)) Stop
 
+-- at slot k of node x, which is the slot given and no tile
+unfoldable pub openS : ℕ → ℕ → ℕ → St → Slot → St
+openS n x k s (Branch c) = s
+openS n x k s (Tile u) = growS n x k far false s
+openS n x k s (Hidden u) = growS n x k far false s
+
+unfoldable pub openR : ℕ → St → Slot → Below
+openR n s (Branch c) = cond (ltb c n) (Go c) Stop
+openR n s (Tile u) = growR n s
+openR n s (Hidden u) = growR n s
+
 -- at slot k of node x, which is the slot given
 unfoldable pub stepS : ℕ → ℕ → ℕ → ℕ → St → Slot → St
 stepS n w x k s (Branch c) = s

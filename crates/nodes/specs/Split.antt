@@ -10,6 +10,12 @@ use Rattle.nodes.specs.declared.walk.Slot.the-variants.{Branch, Tile, Hi
 use Rattle.nodes.specs.declared.walk.Below.{Below}
 use Rattle.nodes.specs.declared.walk.Below.the-variants.{Go, Stop}
 
+-- from a slot that is no tile
+unfoldable pub goOnR : ℕ → Slot → Below
+goOnR n (Branch c) = cond (ltb c n) (Go c) Stop
+goOnR n (Tile u) = Stop
+goOnR n (Hidden u) = Stop
+
 -- at slot k of node x, which is the slot given
 unfoldable pub splitS : ℕ → ℕ → ℕ → St → Slot → St
 splitS n x k s (Branch c) = s

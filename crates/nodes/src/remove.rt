@@ -15,7 +15,7 @@ ghost use Rattle.nodes.specs.Change.{hideS};
 ghost use Rattle.nodes.specs.Layout.{Sized, st};
 ghost use Rattle.nodes.specs.Range.{In, Stands};
 ghost use Rattle.nodes.specs.Remove.{bareS, shutM, removeM};
-ghost use Rattle.nodes.specs.Split.{splitR, splitS};
+ghost use Rattle.nodes.specs.Split.{goOnR, splitR, splitS};
 ghost use Rattle.nodes.specs.Walk.{branching, below, pointOf};
 
 // Slot k of node x is hidden and keeps its word. The promise holds whatever the words and the book.
@@ -72,6 +72,19 @@ fn shut(
     cells::release(slots, masks, book, n, x, k);
 }
 
+// Where a remove goes on from a slot that is no tile: to a cell, or nowhere.
+fn go_on(n: usize, s: Slot) -> Below
+    ensures { λ r. ⌜ r ≡ goOnR n s ⌝ }
+{
+    let Slot::Branch(c) = s else {
+        return Below::Stop;
+    };
+    if c < n {
+        return Below::Go(c);
+    }
+    Below::Stop
+}
+
 // What a remove does at slot k of node x above the leaves, where it is s: a tile becomes a branch of such tiles, and a hidden slot ends the walk. A tile that is
 // not finite is carried nowhere.
 fn split(
@@ -87,21 +100,13 @@ fn split(
     ensures { λ r. ⌜ (r ≡ splitR n (st n (now (slots .entry)) (now (masks .entry)) (now (book .entry))) s)
         × (st n (now (slots .exit)) (now (masks .exit)) (now (book .exit)) ≡ splitS n x k (st n (now (slots .entry)) (now (masks .entry)) (now (book .entry))) s) ⌝ }
 {
-    match s {
-        Slot::Branch(c) => {
-            if c < n {
-                return Below::Go(c);
-            }
-            Below::Stop
-        }
-        Slot::Tile(u) => {
-            if floats::finite_word(u) {
-                return walk::grow(slots, masks, book, n, x, k, u, true);
-            }
-            Below::Stop
-        }
-        Slot::Hidden(_) => Below::Stop,
+    let Slot::Tile(u) = s else {
+        return go_on(n, s);
+    };
+    if floats::finite_word(u) {
+        return walk::grow(slots, masks, book, n, x, k, u, true);
     }
+    Below::Stop
 }
 
 // The voxel v below node x of a level is removed. A branch that was there and is then empty is released; one that was split off on the way has other tiles left,

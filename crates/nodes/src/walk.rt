@@ -9,7 +9,7 @@ ghost use Rattle.floats.specs.Value.{isFinite};
 ghost use Prim.Native.Nat.{ℕ};
 ghost use Rattle.nodes.specs.Layout.{Sized, st};
 ghost use Rattle.nodes.specs.Ends.{reachOf, needInsertE, needRemoveE};
-ghost use Rattle.nodes.specs.Insert.{growS, growR, stepS, stepR};
+ghost use Rattle.nodes.specs.Insert.{growS, growR, openS, openR, stepS, stepR};
 ghost use Rattle.nodes.specs.Range.{In, Stands, Cells};
 ghost use Rattle.nodes.specs.Walk.{branching, below, pointOf, closedS, viewS, reachS, floated, stays, insertM};
 
@@ -148,6 +148,29 @@ pub fn grow(
     Below::Stop
 }
 
+// What an insert does at slot k of node x above the leaves, where it is s and no tile: a hidden slot becomes a branch.
+fn open_up(
+    slots: &mut [u32],
+    masks: &mut [u64],
+    book: &mut [u32],
+    n: usize,
+    x: usize,
+    k: usize,
+    s: Slot,
+) -> Below
+    requires { ⌜ (Sized n (now slots) (now masks) (now book)) × (In n x k) ⌝ }
+    ensures { λ r. ⌜ (r ≡ openR n (st n (now (slots .entry)) (now (masks .entry)) (now (book .entry))) s)
+        × (st n (now (slots .exit)) (now (masks .exit)) (now (book .exit)) ≡ openS n x k (st n (now (slots .entry)) (now (masks .entry)) (now (book .entry))) s) ⌝ }
+{
+    let Slot::Branch(c) = s else {
+        return grow(slots, masks, book, n, x, k, floats::far_word(false), false);
+    };
+    if c < n {
+        return Below::Go(c);
+    }
+    Below::Stop
+}
+
 // What an insert of w does at slot k of node x above the leaves, where it is s: a tile of another value, or a hidden slot, becomes a branch.
 fn descend(
     slots: &mut [u32],
@@ -163,21 +186,13 @@ fn descend(
     ensures { λ r. ⌜ (r ≡ stepR n w (st n (now (slots .entry)) (now (masks .entry)) (now (book .entry))) s)
         × (st n (now (slots .exit)) (now (masks .exit)) (now (book .exit)) ≡ stepS n w x k (st n (now (slots .entry)) (now (masks .entry)) (now (book .entry))) s) ⌝ }
 {
-    match s {
-        Slot::Branch(c) => {
-            if c < n {
-                return Below::Go(c);
-            }
-            Below::Stop
-        }
-        Slot::Tile(u) => {
-            if stays(u, w) {
-                return Below::Stop;
-            }
-            grow(slots, masks, book, n, x, k, u, true)
-        }
-        Slot::Hidden(_) => grow(slots, masks, book, n, x, k, floats::far_word(false), false),
+    let Slot::Tile(u) = s else {
+        return open_up(slots, masks, book, n, x, k, s);
+    };
+    if stays(u, w) {
+        return Below::Stop;
     }
+    grow(slots, masks, book, n, x, k, u, true)
 }
 
 // The word w is inserted at voxel v below node x of a level. Where a cell is needed and none can be had the walk stops.

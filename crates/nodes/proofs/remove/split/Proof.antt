@@ -1,4 +1,4 @@
-use Rattle.nodes.proofs.Removes.{split-branch, split-out, split-no, split-tile, split-hidden}
+use Rattle.nodes.proofs.Removes.{split-other, split-no, split-tile}
 use borrow.Author.Needs.{needs}
 use Rattle.nodes.proofs.remove.split.Statement.{statement}
 use Rattle.nodes.proofs.remove.split.Tie as tie
@@ -6,11 +6,11 @@ use Rattle.nodes.proofs.remove.split.Tie as tie
 enum-known-s : tie.Need-enum-known-s
 enum-known-s c = search needs
 
-returns : tie.Need-returns
-returns c = split-branch _ _ _ _ (c .before .before .s .given .1) (c .if1 .taken)
+go-on-requires : tie.Need-go-on-requires
+go-on-requires c κs = search needs
 
-enum-known-s-2 : tie.Need-enum-known-s-2
-enum-known-s-2 c = search needs
+returns : tie.Need-returns
+returns c = split-other _ _ _ _ _ (c .before .match .keys2) (c .go-on .ensures)
 
 finite-word-requires : tie.Need-finite-word-requires
 finite-word-requires c κs = search needs
@@ -28,34 +28,22 @@ same-length-3 : tie.Need-same-length-3
 same-length-3 c = search needs
 
 returns-2 : tie.Need-returns-2
-returns-2 c = split-tile _ _ _ _ (c .before .before .before .before .before .before .before .before .before .before .before .before .before .s2 .given .1) (c .before .before .before .before .before .before .before .before .before .before .before .finite-word .ensures) (c .before .before .before .before .before .before .before .before .before .before .if2 .taken) (c .before .before .before .before .before .before .grow .ensures .0) (c .before .before .before .before .before .before .grow .ensures .1)
-
-enum-told : tie.Need-enum-told
-enum-told c = search needs
+returns-2 c = split-tile _ _ _ _ (c .before .before .before .before .before .before .before .before .before .before .before .before .before .s .given .1) (c .before .before .before .before .before .before .before .before .before .before .before .finite-word .ensures) (c .before .before .before .before .before .before .before .before .before .before .if1 .taken) (c .before .before .before .before .before .before .grow .ensures .0) (c .before .before .before .before .before .before .grow .ensures .1)
 
 returns-3 : tie.Need-returns-3
-returns-3 c = split-out _ _ _ _ (c .before .before .s .given .1) (c .if1 .left)
-
-returns-4 : tie.Need-returns-4
-returns-4 c = split-no _ _ _ _ (c .before .before .before .s2 .given .1) (c .before .finite-word .ensures) (c .if2 .left)
-
-returns-5 : tie.Need-returns-5
-returns-5 c = split-hidden _ _ _ _ (c .enum-told .given .1)
+returns-3 c = split-no _ _ _ _ (c .before .before .before .s .given .1) (c .before .finite-word .ensures) (c .if1 .left)
 
 pub split-spec : {M : Type 1} → statement M
 split-spec =
     tie.close
     (tie.spec
     enum-known-s
+    go-on-requires
     returns
-    enum-known-s-2
     finite-word-requires
     grow-requires
     same-length
     same-length-2
     same-length-3
     returns-2
-    enum-told
-    returns-3
-    returns-4
-    returns-5)
+    returns-3)
