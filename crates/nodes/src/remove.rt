@@ -50,7 +50,7 @@ pub fn bare(masks: &[u64], n: usize, level: usize, c: usize) -> bool
 }
 
 // The cell below slot k of node x, of a level, is released if it is bare. Nothing is done where the link leaves the pool, or the stack is full.
-fn shut(
+pub fn shut(
     slots: &mut [u32],
     masks: &mut [u64],
     book: &mut [u32],
