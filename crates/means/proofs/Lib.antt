@@ -1,5 +1,6 @@
 -- The theorems on what the memory of a pool stands for.
 pub mod Attach
+pub mod Bare
 pub mod Count
 pub mod Drop
 pub mod Each
@@ -22,5 +23,6 @@ pub mod SeatTurn
 pub mod Slots
 pub mod Sums
 pub mod Test
+pub mod Turn
 pub mod Turned
 pub mod Wipe
