@@ -19,13 +19,13 @@ hidden-flat : (s : St) (y j : ℕ) → isHidden (flat {C = ⊥} s y j) ≡ not (
 unfolding isHidden
 hidden-flat s y j = on-case (s .val y j) (λ v. rw v refl) (λ v. rw v refl)
 
-hidden-slot : {C : Type 0} (f : ℕ → C) (s : St) (y j : ℕ) → isHidden (slotAt f s y j) ≡ (not (s .val y j) && not (s .kid y j))
+pub hidden-slot : {C : Type 0} (f : ℕ → C) (s : St) (y j : ℕ) → isHidden (slotAt f s y j) ≡ (not (s .val y j) && not (s .kid y j))
 unfolding isHidden
 hidden-slot f s y j = on-case (s .kid y j)
     (λ e. on-case (s .val y j) (λ v. rw (e, v) refl) (λ v. rw (e, v) refl))
     (λ e. on-case (s .val y j) (λ v. rw (e, v) refl) (λ v. rw (e, v) refl))
 
-every-as : {A : Type 0} (f : A → Bool) (k : ℕ) (t : ℕ → A) (m : ℕ → Bool) → ((j : ℕ) → j < k → f (t j) ≡ m j) → every f k t ≡ set.every m k
+pub every-as : {A : Type 0} (f : A → Bool) (k : ℕ) (t : ℕ → A) (m : ℕ → Bool) → ((j : ℕ) → j < k → f (t j) ≡ m j) → every f k t ≡ set.every m k
 unfolding every set.every
 every-as f zero t m h = refl
 every-as f (suc k) t m h = ap₂ (λ (a b : Bool). a && b) (h k (omega arith)) (every-as f k t m (λ j l. h j (omega arith)))

@@ -1,6 +1,8 @@
 -- The theorems on what the memory of a pool stands for.
 pub mod Attach
 pub mod Bare
+pub mod Below
+pub mod Copy
 pub mod Count
 pub mod Drop
 pub mod Each

@@ -40,7 +40,7 @@ tree-leaf s x k q = ap (flat s x) (mod-eq-of-lt q)
 
 -- a slot of it above the leaves
 module _ (l : ℕ) (s : St) (x k : ℕ) (q : k < span (suc l)) where
-  tree-slot : treeAt (suc l) s x k ≡ slotAt (treeAt l s) s x k
+  pub tree-slot : treeAt (suc l) s x k ≡ slotAt (treeAt l s) s x k
   unfolding tree
   tree-slot = ap (slotAt (treeAt l s) s x) (mod-eq-of-lt q)
 
