@@ -15,7 +15,7 @@ use Rattle.nodes.specs.Remove.{noneS, bareS}
 use Rattle.means.specs.Level.{span, treeAt, At}
 use Rattle.means.proofs.Levels.{leaf-ends}
 
-hidden-flat : (s : St) (y j : ℕ) → isHidden (flat {C = ⊥} s y j) ≡ not (s .val y j)
+pub hidden-flat : (s : St) (y j : ℕ) → isHidden (flat {C = ⊥} s y j) ≡ not (s .val y j)
 unfolding isHidden
 hidden-flat s y j = on-case (s .val y j) (λ v. rw v refl) (λ v. rw v refl)
 

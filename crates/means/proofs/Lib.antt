@@ -21,7 +21,10 @@ pub mod Prune
 pub mod Put
 pub mod Release
 pub mod Remove
+pub mod Rows
 pub mod SeatTurn
+pub mod Signs
+pub mod SlotSigns
 pub mod Slots
 pub mod Sums
 pub mod Test
