@@ -61,6 +61,9 @@ module _ (n : ℕ) (s : St) (x k : ℕ) where
   pub child-stop : Stop ≡ childR n s x k → childS n s x k ≡ false
   child-stop e = to-none (childS n s x k) (s .slot x k) e
 
+pub child-low : (slots masks book : List ℕ) {n x k c : ℕ} → In n x k → Go c ≡ childR n (st n slots masks book) x k → c < n
+child-low slots masks book {n} {x} {k} i e = child-go n (st n slots masks book) x k e .low
+
 -- ---- whether it is hidden
 module _ (s : St) (l x k : ℕ) {v : Bool} (e : v ≡ s .val x k) where
   pub hidden-no : v ≡ true → false ≡ hiddenS (below l) s x k

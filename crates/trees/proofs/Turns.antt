@@ -1,5 +1,5 @@
 -- Prune, cut and flip, by what the code does at each slot. Assumes nothing.
-use mathlib.Core.Path.{_≡_, refl, sym, ap, _∙_}
+use mathlib.Core.Path.{_≡_, refl, sym, ap, _∙_, subst}
 use mathlib.Core.Bool.{Bool, true, false}
 use mathlib.Core.List.{List, [], _∷_}
 use Prim.Native.Nat.{ℕ, zero, suc, _+_, _-_, _<_}
@@ -95,6 +95,9 @@ module _ (w : Work) (bs : List ℕ) (go : ℕ → St → St) (n x k : ℕ) (s : 
 -- ---- the whole node
 pub cells-same : {n : ℕ} {a d a' d' : List ℕ} → Cells n a d → length a' ≡ length a → length d' ≡ length d → Cells n a' d'
 cells-same z p q = record { most = z .most; slots-fit = p ∙ z .slots-fit; masks-fit = q ∙ z .masks-fit }
+
+pub leaf-stands : {n l x : ℕ} → Stands n l x → l ≡ 0 → Stands n 0 x
+leaf-stands {n} {l} {x} s e = subst (λ (i : ℕ). Stands n i x) e s
 
 pub leaf-slot : {n x k : ℕ} → Stands n 0 x → k < 64 → In n x k
 unfolding size
