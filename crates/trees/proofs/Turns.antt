@@ -3,20 +3,23 @@ use mathlib.Core.Path.{_≡_, refl, sym, ap, _∙_, subst}
 use mathlib.Core.Bool.{Bool, true, false}
 use mathlib.Core.List.{List, [], _∷_}
 use Prim.Native.Nat.{ℕ, zero, suc, _+_, _-_, _<_}
-use lib.ListN.{length}
+use lib.ListN.{length, getD}
 use types.Run.{OneOf, miss}
 use denote.Enum.Declared.{tagOf}
+use Rattle.bitset.specs.Set.{bitOf}
 use Rattle.floats.specs.Value.{isFinite, negated}
 use Rattle.floats.specs.Test.{passes}
 use Rattle.floats.specs.declared.Test.{Test}
 use Rattle.grid.specs.Node.{size}
 use Rattle.nodes.specs.State.{St}
+use Rattle.nodes.specs.Layout.{st, wordOf, valBit}
 use Rattle.nodes.specs.Change.{hideS}
 use Rattle.nodes.specs.Each.{eachS}
 use Rattle.nodes.specs.Range.{In, Stands, Cells}
 use Rattle.nodes.specs.Remove.{shutM}
 use Rattle.nodes.specs.Walk.{branching, below}
 use Rattle.nodes.specs.declared.walk.Below.the-variants.{Go, Stop}
+use Rattle.nodes.proofs.States.{st-slot, st-val}
 use Rattle.nodes.proofs.Paths.{slot-of, one-less}
 use Rattle.trees.specs.Slot.{childR, wordS}
 use Rattle.trees.specs.Turn.{hideIfS, flatS, backS, turnAt, turnM}
@@ -25,31 +28,37 @@ use Rattle.trees.specs.declared.turn.Work.the-variants.{Prune, Cut, Flip
 use Rattle.trees.proofs.turn.Work.{the-type}
 use Rattle.trees.proofs.Slots.{child-go, child-stop}
 
--- ---- a slot of a cut, as far as it was looked at
-module _ (t : Test) (x k : ℕ) (s : St) {v : Bool} (e : v ≡ s .val x k) where
-  pub cut-hidden : v ≡ false → s ≡ hideIfS t x k s
+-- ---- a slot of a cut, by what was read of it
+module _ (t : Test) (slots masks book : List ℕ) {n x k : ℕ} (i : In n x k) {v : Bool} (e : v ≡ bitOf masks (valBit n x k)) where
+  val-is : st n slots masks book .val x k ≡ v
+  val-is = st-val slots masks book i ∙ sym e
+
+  pub cut-hidden : v ≡ false → st n slots masks book ≡ hideIfS t x k (st n slots masks book)
   unfolding hideIfS
-  cut-hidden h = sym (rw (sym e ∙ h) refl)
+  cut-hidden h = sym (rw (val-is ∙ h) refl)
 
-  module _ (h : v ≡ true) {w : ℕ} (d : w ≡ s .slot x k) {f : Bool} (p : f ≡ isFinite w) where
-    finite-is : isFinite (s .slot x k) ≡ f
-    finite-is = ap isFinite (sym d) ∙ sym p
+  module _ (h : v ≡ true) {w : ℕ} (d : w ≡ getD slots (wordOf x k) 0) {f : Bool} (p : f ≡ isFinite w) where
+    word-is : st n slots masks book .slot x k ≡ w
+    word-is = st-slot slots masks book i ∙ sym d
 
-    pub cut-odd : f ≡ false → s ≡ hideIfS t x k s
+    finite-is : isFinite (st n slots masks book .slot x k) ≡ f
+    finite-is = ap isFinite word-is ∙ sym p
+
+    pub cut-odd : f ≡ false → st n slots masks book ≡ hideIfS t x k (st n slots masks book)
     unfolding hideIfS
-    cut-odd g = sym (rw (sym e ∙ h, finite-is ∙ g) refl)
+    cut-odd g = sym (rw (val-is ∙ h, finite-is ∙ g) refl)
 
     module _ (g : f ≡ true) {q : Bool} (o : q ≡ passes t w) where
-      passes-is : passes t (s .slot x k) ≡ q
-      passes-is = ap (passes t) (sym d) ∙ sym o
+      passes-is : passes t (st n slots masks book .slot x k) ≡ q
+      passes-is = ap (passes t) word-is ∙ sym o
 
-      pub cut-not : q ≡ false → s ≡ hideIfS t x k s
+      pub cut-not : q ≡ false → st n slots masks book ≡ hideIfS t x k (st n slots masks book)
       unfolding hideIfS
-      cut-not u = sym (rw (sym e ∙ h, finite-is ∙ g, passes-is ∙ u) refl)
+      cut-not u = sym (rw (val-is ∙ h, finite-is ∙ g, passes-is ∙ u) refl)
 
-      pub cut-hides : q ≡ true → {r : St} → r ≡ hideS x k s → r ≡ hideIfS t x k s
+      pub cut-hides : q ≡ true → {r : St} → r ≡ hideS x k (st n slots masks book) → r ≡ hideIfS t x k (st n slots masks book)
       unfolding hideIfS
-      cut-hides u z = z ∙ sym (rw (sym e ∙ h, finite-is ∙ g, passes-is ∙ u) refl)
+      cut-hides u z = z ∙ sym (rw (val-is ∙ h, finite-is ∙ g, passes-is ∙ u) refl)
 
 -- ---- a slot that is no branch
 module _ {w : Work} (x k : ℕ) (s : St) where
