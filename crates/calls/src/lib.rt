@@ -1,6 +1,7 @@
 // The calls for C, on the three lent slices of a pool. Each takes numbers and slices alone and asks nothing of its caller: what does not fit is refused, and a refused
 // call has changed no lent word. A slice is a pointer and a count of elements in C, and a point is three signed coordinates, of which the low 7 bits count.
 use pool::seat;
+use pool::seat::Task;
 use pool::voxel;
 use pool::voxel::Found;
 use pool::whole;
@@ -175,7 +176,7 @@ pub extern "C" fn yoldrick_fill(
 ) -> u32
     ensures { λ r. ⌜ Says codeOf (One seat (Fill bits)) (memOf (now (slots .entry)) (now (masks .entry)) (now (book .entry))) r (memOf (now (slots .exit)) (now (masks .exit)) (now (book .exit))) ⌝ }
 {
-    seat::fill(slots, masks, book, seat, bits)
+    seat::change(slots, masks, book, seat, Task::Fill(bits))
 }
 
 // The seat is empty, and its cells are free.
@@ -188,5 +189,5 @@ pub extern "C" fn yoldrick_clear(
 ) -> u32
     ensures { λ r. ⌜ Says codeOf (One seat Clear) (memOf (now (slots .entry)) (now (masks .entry)) (now (book .entry))) r (memOf (now (slots .exit)) (now (masks .exit)) (now (book .exit))) ⌝ }
 {
-    seat::clear(slots, masks, book, seat)
+    seat::change(slots, masks, book, seat, Task::Clear)
 }

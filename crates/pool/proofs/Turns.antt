@@ -39,6 +39,7 @@ use Rattle.means.proofs.Remove.{remove-right}
 use Rattle.means.proofs.Loose.{LooseS, loose-insert, loose-remove, loose-mem}
 use Rattle.pool.specs.Lent.{lent}
 use Rattle.pool.specs.Answers.{Says, codeOf, blockedE, insertBlocked, removeBlocked}
+use Rattle.pool.specs.Guard.{orNone}
 use Rattle.pool.proofs.Promises.{Counted, is-fit, is-cells, is-pool, is-walk}
 
 -- ---- the same lengths
@@ -74,10 +75,6 @@ module _ (m m' : Mem) (i : ℕ) (l : i < 8) (x : Act) (serve : refusal (readsIn 
   )
 
 -- ---- insert and remove: the tests after the walk
-
-abbrev pub orNone : ℕ → Option ℕ
-orNone zero = none
-orNone (suc n) = some (suc n)
 
 blocked-is : (n : ℕ) (s : St) (q : Reach) (need : ℕ)
     → cond (not (whole q && linked n s need)) (some 5) (cond (not (leb need (s .count))) (some 9) none) ≡ orNone (blockedE n s (floated q) need)

@@ -5,12 +5,12 @@ use nodes::memory;
 use nodes::walk::Below;
 ghost use mathlib.Core.Path.{_≡_};
 ghost use mathlib.Core.List.{List};
-ghost use Prim.Native.Nat.{ℕ, _+_, _-_, _*_, _^_, _<_, _≤_};
+ghost use Prim.Native.Nat.{ℕ, _+_, _*_, _^_, _≤_};
 ghost use Rattle.grid.specs.Node.{size};
 ghost use Rattle.nodes.specs.Layout.{st};
 ghost use Rattle.nodes.specs.Range.{In, Stands, Cells};
 ghost use Rattle.nodes.specs.Walk.{branching, below};
-ghost use Rattle.trees.specs.Signs.{signS, behindS, startS, writeS, rowZ, rowY, rowsM, downS, fillSignsM};
+ghost use Rattle.trees.specs.Signs.{signS, behindS, startS, writeS, rowZ, rowY, rowsM, fillSignsM};
 
 // The sign of slot k of node x of a level: that of its word, or, where it leads to a cell, that of the cell's slot 0. The promise holds whatever the book, as do all of this
 // file.
@@ -104,8 +104,9 @@ fn row_z(slots: &mut [u32], masks: &[u64], n: usize, level: usize, x: usize, i: 
     let mut k = sign;
     let mut z = 0;
     while z < m {
-        k = behind(slots, masks, n, level, x, i + z, k);
-        write(slots, masks, n, level, x, i + z, k);
+        let p = i + z;
+        k = behind(slots, masks, n, level, x, p, k);
+        write(slots, masks, n, level, x, p, k);
         z += 1;
     }
 }
@@ -120,8 +121,9 @@ fn row_y(slots: &mut [u32], masks: &[u64], n: usize, level: usize, x: usize, i: 
     let mut j = sign;
     let mut y = 0;
     while y < m {
-        j = behind(slots, masks, n, level, x, i + y * m, j);
-        row_z(slots, masks, n, level, x, i + y * m, j);
+        let p = i + y * m;
+        j = behind(slots, masks, n, level, x, p, j);
+        row_z(slots, masks, n, level, x, p, j);
         y += 1;
     }
 }
@@ -133,25 +135,15 @@ fn rows(slots: &mut [u32], masks: &[u64], n: usize, level: usize, x: usize)
         ≡ rowsM (branching level) (below level) n x (st n (now (slots .entry)) (now (masks .entry)) book)) ⌝ }
 {
     let m = side_in(level);
+    let w = m * m;
     let mut i = start(slots, masks, n, level, x);
     let mut a = 0;
     while a < m {
-        i = behind(slots, masks, n, level, x, a * (m * m), i);
-        row_y(slots, masks, n, level, x, a * (m * m), i);
+        let p = a * w;
+        i = behind(slots, masks, n, level, x, p, i);
+        row_y(slots, masks, n, level, x, p, i);
         a += 1;
     }
-}
-
-// The sign fill of the cell below slot k of node x of a level above the leaves.
-fn down(slots: &mut [u32], masks: &[u64], n: usize, level: usize, x: usize, k: usize)
-    requires { ⌜ (Cells n (now slots) (now masks)) × (Stands n level x) × (In n x k) × (0 < level) ⌝ }
-    ensures { λ _. ⌜ ((book : List ℕ) → st n (now (slots .exit)) (now (masks .entry)) book
-        ≡ downS (fillSignsM (branching (level - 1)) (below (level - 1)) n) n x k (st n (now (slots .entry)) (now (masks .entry)) book)) ⌝ }
-{
-    let Below::Go(c) = slot::child(slots, masks, n, x, k) else {
-        return;
-    };
-    fill_signs(slots, masks, n, level - 1, 8 + c);
 }
 
 // The sign fill of node x of a level and of all that hangs below it.
@@ -165,10 +157,11 @@ pub fn fill_signs(slots: &mut [u32], masks: &[u64], n: usize, level: usize, x: u
         return;
     }
     let m = geometry::size_in(level);
-    let mut k = 0;
-    while k < m {
-        down(slots, masks, n, level, x, k);
-        k += 1;
+    for k in 0..m {
+        let Below::Go(c) = slot::child(slots, masks, n, x, k) else {
+            continue;
+        };
+        fill_signs(slots, masks, n, level - 1, 8 + c);
     }
     rows(slots, masks, n, level, x);
 }
