@@ -9,4 +9,5 @@ pub mod Turns
 pub mod WholePromises
 pub mod Guards
 pub mod Tasks
+pub mod Pairs
 pub mod Demands

@@ -46,6 +46,13 @@ Counted n m =
 pub counted-fits : (m : Mem) (n : ℕ) → Counted n m → (n ≡ 0 → ⊥) → (fits m ≡ true) × (n ≡ cellsOf m)
 counted-fits m n h z = count-fits m n (h m refl refl refl) z
 
+-- lengths that belong together are for some cell
+pub counted-some : (m : Mem) (n : ℕ) → Counted n m → fits m ≡ true → n ≡ 0 → ⊥
+counted-some m n h f z = some (h m refl refl refl ∙ rw f refl)
+  where
+    some : n ≡ cellsOf m → ⊥
+    some e = omega (arith, fitting m f .some)
+
 -- refusal 1, of any call
 pub counted-1 : {R : Type 0} (f : Answer → R) (c : Call) (m : Mem) (n : ℕ) → Counted n m → n ≡ 0 → Says f c m (f (refused 1)) m
 counted-1 f c m n h z = (refused 1, refl, rw (none-fits m n (h m refl refl refl) z) (refl, refl))

@@ -2,8 +2,8 @@
 use super::lengths;
 use super::test;
 ghost use mathlib.Core.Path.{_≡_};
-ghost use mathlib.Core.Bool.{cond};
-ghost use lib.Dec.{leb};
+ghost use mathlib.Core.Bool.{cond, _||_};
+ghost use lib.Dec.{leb, eqb};
 ghost use Rattle.pool.specs.Answers.{memOf};
 ghost use Rattle.pool.specs.Guard.{guardOf};
 
@@ -18,6 +18,22 @@ pub fn one_given(seat: u32, finite: bool) -> u32
         return 0;
     }
     4
+}
+
+// The same of a call on two seats that gives no values.
+pub fn two_given(first: u32, second: u32) -> u32
+    ensures { λ r. ⌜ r ≡ cond (leb 8 first || leb 8 second) 2 (cond (eqb first second) 3 0) ⌝ }
+{
+    if 7 < first {
+        return 2;
+    }
+    if 7 < second {
+        return 2;
+    }
+    if first == second {
+        return 3;
+    }
+    0
 }
 
 // The first refusal of a call on the whole pool up to 5, where its arguments give the refusal `given`; 0 if none.

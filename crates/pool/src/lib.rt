@@ -2,6 +2,7 @@
 pub mod free;
 pub mod guard;
 pub mod lengths;
+pub mod pair;
 pub mod prepare;
 pub mod seat;
 pub mod test;

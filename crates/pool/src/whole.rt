@@ -56,7 +56,7 @@ pub enum Whether {
 }
 
 // Both masks of the top of seat t are empty: no slot of it is a branch or an active tile. A top has 8 words in each mask, and the tops come first.
-fn both_empty(masks: &[u64], n: usize, t: usize) -> bool
+pub fn both_empty(masks: &[u64], n: usize, t: usize) -> bool
     requires { ⌜ (n < 65536) × (length (now masks) ≡ 128 + 2 * n) × (t < 8) ⌝ }
     ensures { λ r. ⌜ ((slots book : List ℕ) → r ≡ isEmpty 3 (2 ∷ 2 ∷ []) (tree 3 (2 ∷ 2 ∷ []) (st n slots (now (masks .entry)) book) t)) ⌝ }
 {

@@ -1,55 +1,45 @@
+use Rattle.seats.specs.Call.{One}
+use Rattle.pool.specs.Answers.{memOf}
+use Rattle.pool.specs.Task.{actOf}
+use Rattle.pool.proofs.Guards.{served-seat, served-sized, none-served}
+use Rattle.pool.proofs.Tasks.{change-says}
+use Rattle.pool.proofs.Turns.{blocked-says}
 use borrow.Author.Needs.{needs}
 use Rattle.pool.proofs.seat.change.Statement.{statement}
 use Rattle.pool.proofs.seat.change.Tie as tie
-use Rattle.pool.proofs.seat.change.Reads as reads
-use Rattle.pool.proofs.seat.change.Lts as lts
-use Rattle.pool.proofs.lengths.cells.Reads as cells-reads
-use Rattle.pool.proofs.seat.barred.Reads as barred-reads
-use Rattle.pool.proofs.seat.settle.Reads as settle-reads
 
--- src/seat.rt:92:9
 barred-requires : tie.Need-barred-requires
 barred-requires c κs = search needs
 
--- src/seat.rt:94:9
 same-length : tie.Need-same-length
 same-length c = search needs
 
--- src/seat.rt:94:9
 same-length-2 : tie.Need-same-length-2
 same-length-2 c = search needs
 
--- src/seat.rt:94:9
 same-length-3 : tie.Need-same-length-3
 same-length-3 c = search needs
 
--- src/seat.rt:94:9
 returns : tie.Need-returns
-returns c = ?
+returns c = let a = c .before .before .before .before .before .before .before .before .args in blocked-says (One (a .seat) (actOf (a .task))) (memOf (a .slots .now) (a .masks .now) (a .book .now)) _ (c .before .barred .ensures) (c .if1 .taken)
 
--- src/seat.rt:96:9
 cells-requires : tie.Need-cells-requires
 cells-requires c κs = search needs
 
--- src/seat.rt:97:5
 settle-requires : tie.Need-settle-requires
-settle-requires c κs = ?
+settle-requires c κs = let a = c .before .before .before .before .before .before .before .before .before .before .before .before .args in let s = none-served _ (c .before .before .before .before .before .barred .ensures) (c .before .before .before .before .if1 .left) in (served-sized (memOf (a .slots .now) (a .masks .now) (a .book .now)) (One (a .seat) (actOf (a .task))) s _ (c .before .before .before .cells .ensures), served-seat (memOf (a .slots .now) (a .masks .now) (a .book .now)) (a .seat) (actOf (a .task)) s)
 
--- src/seat.rt:83:1
 same-length-4 : tie.Need-same-length-4
 same-length-4 c = search needs
 
--- src/seat.rt:83:1
 same-length-5 : tie.Need-same-length-5
 same-length-5 c = search needs
 
--- src/seat.rt:83:1
 same-length-6 : tie.Need-same-length-6
 same-length-6 c = search needs
 
--- src/seat.rt:83:1
 returns-2 : tie.Need-returns-2
-returns-2 c = ?
+returns-2 c = let a = c .before .before .before .before .before .before .before .before .before .before .before .before .before .before .before .before .before .before .before .args in let s = none-served _ (c .before .before .before .before .before .before .before .before .before .before .before .before .barred .ensures) (c .before .before .before .before .before .before .before .before .before .before .before .if1 .left) in let l = c .before .before .before .before .before .before .settle .last in let k = c .before .before .before .before .before .before .settle .kept in change-says (a .task) (memOf (a .slots .now) (a .masks .now) (a .book .now)) _ (c .before .before .before .before .before .before .before .before .before .before .cells .ensures) (a .seat) (served-seat (memOf (a .slots .now) (a .masks .now) (a .book .now)) (a .seat) (actOf (a .task)) s) s (memOf (l .0) (l .1 .0) (l .1 .1 .0)) (record { slots = k .0; masks = k .1 .0; book = k .1 .1 .0 }) (c .before .before .before .before .before .before .settle .ensures)
 
 pub change-spec : {M : Type 1} → statement M
 change-spec =
