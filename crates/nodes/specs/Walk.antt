@@ -32,6 +32,9 @@ below (suc l) = branching l ∷ below l
 abbrev pub voxelAt : ℤ → ℤ → ℤ → ℕ
 voxelAt x y z = masked 7 x * 16384 + masked 7 y * 128 + masked 7 z
 
+abbrev pub voxelOf : Point → ℕ
+voxelOf p = voxelAt (p .x) (p .y) (p .z)
+
 abbrev pub pointOf : ℕ → Point
 pointOf v = record { x = pos (v / 16384); y = pos (v / 128 % 128); z = pos (v % 128) }
 

@@ -12,10 +12,10 @@ use Rattle.grid.specs.Geometry.{Point, total}
 use Rattle.seats.specs.Call.{Act, Call, Answer, One, Lookup, refused, found}
 use Rattle.nodes.specs.State.{St}
 use Rattle.nodes.specs.Layout.{Sized, st}
-use Rattle.nodes.specs.Walk.{Reach, active, hidden, broken, reachS, floated, pointOf}
+use Rattle.nodes.specs.Walk.{Reach, active, hidden, broken, reachS, floated, pointOf, voxelOf}
 use Rattle.nodes.specs.declared.walk.Ends.{Ends}
 use Rattle.means.specs.Mem.{Mem, cellsOf, fits, poolOf, walk}
-use Rattle.means.proofs.Points.{voxelOf, reach-same, voxel-alike}
+use Rattle.means.proofs.Points.{reach-same, voxel-alike}
 use Rattle.means.proofs.Memory.{Fitting, fitting}
 use Rattle.pool.specs.Answers.{Says, foundOf, shownE}
 use Rattle.pool.specs.declared.voxel.Found.{Found}

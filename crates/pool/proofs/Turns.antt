@@ -23,7 +23,7 @@ use Rattle.seats.proofs.Promise.{served-step}
 use Rattle.nodes.specs.State.{St}
 use Rattle.nodes.specs.Layout.{st}
 use Rattle.nodes.specs.Change.{markS}
-use Rattle.nodes.specs.Walk.{Reach, active, hidden, broken, floated, needInsertR, needRemoveR, insertM, pointOf}
+use Rattle.nodes.specs.Walk.{Reach, active, hidden, broken, floated, needInsertR, needRemoveR, insertM, pointOf, voxelOf}
 use Rattle.nodes.specs.Ends.{needInsertE, needRemoveE}
 use Rattle.nodes.specs.declared.walk.Ends.{Ends}
 use Rattle.nodes.proofs.Paths.{need-insert, need-remove}
@@ -33,7 +33,7 @@ use Rattle.means.specs.Level.{levels, Turned}
 use Rattle.means.specs.Mem.{Mem, lensOf, cellsOf, fits, poolOf, SoundMem, seatOf, stateOf, walk, whole, linked, readsIn}
 use Rattle.means.proofs.Memory.{Fitting, fitting, mem-sound, seat-is}
 use Rattle.means.proofs.SeatTurn.{turn-sound, turn-seats}
-use Rattle.means.proofs.Points.{voxelOf, voxel-alike, insert-same, remove-same}
+use Rattle.means.proofs.Points.{voxel-alike, insert-same, remove-same}
 use Rattle.means.proofs.Insert.{insert-right}
 use Rattle.means.proofs.Remove.{remove-right}
 use Rattle.means.proofs.Loose.{LooseS, loose-insert, loose-remove, loose-mem}

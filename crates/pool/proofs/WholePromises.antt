@@ -24,14 +24,13 @@ use Rattle.seats.specs.Step.{step, play, served}
 use Rattle.nodes.specs.State.{St, slotAt, tree}
 use Rattle.nodes.specs.Layout.{st, wordOf, countPlace, inside}
 use Rattle.nodes.specs.Test.{soundB}
-use Rattle.nodes.specs.Walk.{Reach, active, hidden, broken, reachAt, reachS, floated, pointOf}
+use Rattle.nodes.specs.Walk.{Reach, active, hidden, broken, reachAt, reachS, floated, pointOf, voxelOf}
 use Rattle.nodes.specs.declared.walk.Ends.{Ends}
 use Rattle.nodes.proofs.Places.{word-top}
 use Rattle.nodes.proofs.States.{st-kid, st-val}
 use Rattle.means.specs.Mem.{Mem, cellsOf, poolOf, SoundMem, seatOf, stateOf, lensOf, walk}
 use Rattle.means.specs.Prepared.{Ready}
 use Rattle.means.proofs.Memory.{fitting, mem-sound, seat-is}
-use Rattle.means.proofs.Points.{voxelOf}
 use Rattle.means.proofs.Prepared.{ready-sound, ready-fresh}
 use Rattle.pool.specs.Answers.{Says, codeOf, countOf, whetherOf, finiteE, signedE}
 use Rattle.pool.specs.declared.whole.Free.the-variants as free

@@ -14,10 +14,9 @@ ghost use Rattle.seats.specs.Call.{One, Lookup, Insert, Remove};
 ghost use Rattle.floats.specs.Value.{isFinite};
 ghost use Rattle.nodes.specs.Layout.{st, Sized};
 ghost use Rattle.nodes.specs.Change.{markS};
-ghost use Rattle.nodes.specs.Walk.{insertM, pointOf};
+ghost use Rattle.nodes.specs.Walk.{insertM, pointOf, voxelOf};
 ghost use Rattle.nodes.specs.Remove.{removeM};
 ghost use Rattle.nodes.specs.Range.{Booked};
-ghost use Rattle.means.proofs.Points.{voxelOf};
 ghost use Rattle.pool.specs.Answers.{memOf, Says, foundOf, codeOf, shownE, blockedE, insertBlocked, removeBlocked};
 
 // What a lookup answers.

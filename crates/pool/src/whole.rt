@@ -14,7 +14,7 @@ ghost use Rattle.grid.specs.Whole.{isEmpty};
 ghost use Rattle.seats.specs.Call.{One, Sign, IsEmpty, Prepare, Count};
 ghost use Rattle.nodes.specs.State.{tree};
 ghost use Rattle.nodes.specs.Layout.{st};
-ghost use Rattle.means.proofs.Points.{voxelOf};
+ghost use Rattle.nodes.specs.Walk.{voxelOf};
 ghost use Rattle.pool.specs.Answers.{memOf, Says, codeOf, countOf, whetherOf, finiteE, signedF, signedE};
 
 // Every cell is freed and every seat emptied, whatever the memory held. Answers 0, or 1 where the lengths do not belong together.
