@@ -29,6 +29,10 @@ below (suc l) = branching l ∷ below l
 
 -- ---- the code passes a voxel by its number, x * 2 ^ 14 + y * 2 ^ 7 + z, with coordinates masked to 7 bits
 
+-- the voxels of a grid, 2 ^ 21
+abbrev pub voxels : ℕ
+voxels = 2097152
+
 abbrev pub voxelAt : ℤ → ℤ → ℤ → ℕ
 voxelAt x y z = masked 7 x * 16384 + masked 7 y * 128 + masked 7 z
 

@@ -4,7 +4,7 @@ ghost use mathlib.Core.List.{[], _∷_};
 ghost use Prim.Native.Nat.{_<_, _≤_};
 ghost use Rattle.grid.specs.Geometry.{masked, slotOf};
 ghost use Rattle.grid.specs.Node.{size};
-ghost use Rattle.nodes.specs.Walk.{branching, below, pointOf, voxelAt};
+ghost use Rattle.nodes.specs.Walk.{branching, below, pointOf, voxelAt, voxels};
 
 pub struct Top;
 
@@ -92,7 +92,7 @@ fn masked7(x: i32) -> usize
 
 // The number of the voxel at a point.
 pub fn voxel(x: i32, y: i32, z: i32) -> usize
-    ensures { λ r. ⌜ r ≡ voxelAt x y z ⌝ }
+    ensures { λ r. ⌜ (r ≡ voxelAt x y z) × (r < voxels) ⌝ }
 {
     masked7(x) * 16384 + masked7(y) * 128 + masked7(z)
 }

@@ -14,7 +14,7 @@ ghost use Rattle.grid.specs.Whole.{isEmpty};
 ghost use Rattle.seats.specs.Call.{One, Sign, IsEmpty, Prepare, Count};
 ghost use Rattle.nodes.specs.State.{tree};
 ghost use Rattle.nodes.specs.Layout.{st};
-ghost use Rattle.nodes.specs.Walk.{voxelOf};
+ghost use Rattle.nodes.specs.Walk.{voxelOf, voxels};
 ghost use Rattle.pool.specs.Answers.{memOf, Says, codeOf, countOf, whetherOf, finiteE, signedF, signedE};
 
 // Every cell is freed and every seat emptied, whatever the memory held. Answers 0, or 1 where the lengths do not belong together.
@@ -110,6 +110,7 @@ fn signed_end(e: Ends, filled: bool) -> Whether
 
 // Whether the value at a voxel of a filled seat, active or hidden, is negative. A mark of 1 alone is set.
 pub fn sign(slots: &[u32], masks: &[u64], book: &[u32], seat: u32, v: usize) -> Whether
+    requires { ⌜ v < voxels ⌝ }
     ensures { λ r. ⌜ ((p : Point) → v ≡ voxelOf p → Says whetherOf (One seat (Sign p)) (memOf (now (slots .entry)) (now (masks .entry)) (now (book .entry))) r (memOf (now (slots .entry)) (now (masks .entry)) (now (book .entry)))) ⌝ }
 {
     let n = lengths::cells(slots.len(), masks.len(), book.len());
