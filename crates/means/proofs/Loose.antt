@@ -16,7 +16,7 @@ use Rattle.grid.specs.Geometry.{Point, slotOf}
 use Rattle.grid.specs.Node.{size}
 use Rattle.grid.proofs.Places.{cond-at}
 use Rattle.nodes.specs.State.{St}
-use Rattle.nodes.specs.Layout.{wordOf}
+use Rattle.nodes.specs.Layout.{wordOf, tops, slotsLength}
 use Rattle.nodes.specs.Range.{In}
 use Rattle.nodes.specs.Change.{inCell, putS, hideS, next, attachS, releaseS, markS}
 use Rattle.nodes.specs.Steps.{slotS, roomS}
@@ -164,15 +164,15 @@ wipe-loose b (c ∷ bs) n w a x s fw =
 -- ---- from slots to lent words
 
 -- every word of a pool of n cells is that of a slot
-word-at : (n : ℕ) (P : ℕ → Type 0) → ((x k : ℕ) → In n x k → P (wordOf x k)) → (i : ℕ) → i < 4096 + 64 * n → P i
-word-at n P h i l = elim (lt-or-le i 4096) [
+word-at : (n : ℕ) (P : ℕ → Type 0) → ((x k : ℕ) → In n x k → P (wordOf x k)) → (i : ℕ) → i < slotsLength n → P i
+word-at n P h i l = elim (lt-or-le i tops) [
   | inl a ↦
       let t : i / 512 < 8 = omega arith in
       subst P (omega (arith, word-top (i / 512) (i % 512) t)) (h (i / 512) (i % 512) (record { node = omega arith; slot = omega (arith, wide-top (i / 512) t) }))
   | inr a ↦
-      let x : ℕ = 8 + (i - 4096) / 64 in
+      let x : ℕ = 8 + (i - tops) / 64 in
       let t : 8 ≤ x = omega arith in
-      subst P (omega (arith, word-cell x ((i - 4096) % 64) t)) (h x ((i - 4096) % 64) (record { node = omega arith; slot = omega (arith, wide-cell x t) }))
+      subst P (omega (arith, word-cell x ((i - tops) % 64) t)) (h x ((i - tops) % 64) (record { node = omega arith; slot = omega (arith, wide-cell x t) }))
 ]
 
 -- from m to m' the state has become r with a mark set

@@ -23,6 +23,7 @@ use Rattle.seats.specs.Step.{readsOf, needOf, needOne, needTwo}
 use Rattle.seats.proofs.Names.{among-head}
 use Rattle.nodes.specs.State as state
 use Rattle.nodes.specs.State.{St, tree}
+use Rattle.nodes.specs.Layout.{slotsLength, masksLength, bookLength}
 use Rattle.nodes.specs.Walk.{Reach, active, hidden, broken, reachS, needInsertR, needRemoveR}
 use Rattle.nodes.specs.Test.{soundB}
 use Rattle.means.specs.Ends.{shown, signed}
@@ -38,23 +39,23 @@ use Rattle.means.proofs.Test as test
 pub record Fitting (m : Mem) : Type 0 where
   pub some : 0 < cellsOf m
   pub most : cellsOf m < 65536
-  pub slots : length (m .slots) ≡ 4096 + 64 * cellsOf m
-  pub masks : length (m .masks) ≡ 128 + 2 * cellsOf m
-  pub book : length (m .book) ≡ 9 + 2 * cellsOf m
+  pub slots : length (m .slots) ≡ slotsLength (cellsOf m)
+  pub masks : length (m .masks) ≡ masksLength (cellsOf m)
+  pub book : length (m .book) ≡ bookLength (cellsOf m)
 
 pub fitting : (m : Mem) → fits m ≡ true → Fitting m
 unfolding fits
 fitting m e =
     let a = and-both (ltb 0 (cellsOf m)) _ e in
     let b = and-both (ltb (cellsOf m) 65536) _ (a .1) in
-    let c = and-both (eqb (length (m .slots)) (4096 + 64 * cellsOf m)) _ (b .1) in
-    let d = and-both (eqb (length (m .masks)) (128 + 2 * cellsOf m)) _ (c .1) in
+    let c = and-both (eqb (length (m .slots)) (slotsLength (cellsOf m))) _ (b .1) in
+    let d = and-both (eqb (length (m .masks)) (masksLength (cellsOf m))) _ (c .1) in
     record {
       some = ltb-true 0 (cellsOf m) (a .0);
       most = ltb-true (cellsOf m) 65536 (b .0);
-      slots = eqb-true (length (m .slots)) (4096 + 64 * cellsOf m) (c .0);
-      masks = eqb-true (length (m .masks)) (128 + 2 * cellsOf m) (d .0);
-      book = eqb-true (length (m .book)) (9 + 2 * cellsOf m) (d .1);
+      slots = eqb-true (length (m .slots)) (slotsLength (cellsOf m)) (c .0);
+      masks = eqb-true (length (m .masks)) (masksLength (cellsOf m)) (d .0);
+      book = eqb-true (length (m .book)) (bookLength (cellsOf m)) (d .1);
     }
 
 -- the test is that the pool is sound

@@ -16,7 +16,7 @@ use Rattle.bitset.proofs.Words.{zero-bit, ones-bit}
 use Rattle.bitset.proofs.Sets.{bit-set}
 use Rattle.floats.specs.Value.{far}
 use Rattle.nodes.specs.State.{St}
-use Rattle.nodes.specs.Layout.{st, part, wordOf, kidBit, valBit, countPlace, stackPlace, tagPlace}
+use Rattle.nodes.specs.Layout.{st, part, wordOf, kidBit, valBit}
 use Rattle.nodes.specs.Change.{at1, at2, inCell, putS, attachS, releaseS, markS, next}
 use Rattle.nodes.specs.Steps.{slotS, cellS, takeS, giveS, roomS}
 use Rattle.nodes.specs.Walk.{readyS}

@@ -21,7 +21,7 @@ use Rattle.seats.specs.Step.{act, served, step}
 use Rattle.seats.proofs.Refusal.{enough}
 use Rattle.seats.proofs.Promise.{served-step}
 use Rattle.nodes.specs.State.{St}
-use Rattle.nodes.specs.Layout.{st}
+use Rattle.nodes.specs.Layout.{st, tops}
 use Rattle.nodes.specs.Change.{markS}
 use Rattle.nodes.specs.Walk.{Reach, active, hidden, broken, floated, needInsertR, needRemoveR, insertM, pointOf, voxelOf}
 use Rattle.nodes.specs.Ends.{needInsertE, needRemoveE}
@@ -53,7 +53,7 @@ module _ {m m' : Mem} (k : Kept m m') where
   kept-lens = cc (k .slots, k .masks, k .book)
 
   pub kept-cells : cellsOf m' ≡ cellsOf m
-  kept-cells = ap (λ (n : ℕ). (n - 4096) / 64) (k .slots)
+  kept-cells = ap (λ (n : ℕ). (n - tops) / 64) (k .slots)
 
   pub kept-fits : fits m' ≡ fits m
   unfolding fits

@@ -1,19 +1,23 @@
 // Preparing and counting the pool, and the calls that only read a seat. Preparing alone changes memory, and only once the lengths are known to belong together.
 use super::lengths;
 use super::test;
+use nodes::geometry::Top;
+use nodes::memory::COUNT;
+use nodes::memory::TOP_MASKS;
+use nodes::memory::TOP_WORDS;
 use nodes::walk;
 use nodes::walk::Ends;
 ghost use mathlib.Core.Path.{_≡_};
 ghost use mathlib.Core.Bool.{true};
 ghost use mathlib.Core.List.{List, [], _∷_};
-ghost use Prim.Native.Nat.{ℕ, _+_, _*_, _<_};
-ghost use lib.ListN.{length};
+ghost use Prim.Native.Nat.{ℕ, _<_};
 ghost use lib.Ieee.Scale.{finite};
 ghost use Rattle.grid.specs.Geometry.{Point};
 ghost use Rattle.grid.specs.Whole.{isEmpty};
 ghost use Rattle.seats.specs.Call.{One, Sign, IsEmpty, Prepare, Count};
 ghost use Rattle.nodes.specs.State.{tree};
 ghost use Rattle.nodes.specs.Layout.{st};
+ghost use Rattle.nodes.specs.Range.{Masked};
 ghost use Rattle.nodes.specs.Walk.{voxelOf, voxels};
 ghost use Rattle.pool.specs.Answers.{memOf, Says, codeOf, countOf, whetherOf, finiteE, signedF, signedE};
 
@@ -46,7 +50,7 @@ pub fn count(slots: &[u32], masks: &[u64], book: &[u32]) -> Free
     if !test::sound(slots, masks, book, n) {
         return Free::Refused(5);
     }
-    Free::Cells(book[8])
+    Free::Cells(book[COUNT])
 }
 
 // What a question about a seat answers.
@@ -57,15 +61,15 @@ pub enum Whether {
 
 // Both masks of the top of seat t are empty: no slot of it is a branch or an active tile. A top has 8 words in each mask, and the tops come first.
 fn both_empty(masks: &[u64], n: usize, t: usize) -> bool
-    requires { ⌜ (n < 65536) × (length (now masks) ≡ 128 + 2 * n) × (t < 8) ⌝ }
+    requires { ⌜ (Masked n (now masks)) × (t < 8) ⌝ }
     ensures { λ r. ⌜ ((slots book : List ℕ) → r ≡ isEmpty 3 (2 ∷ 2 ∷ []) (tree 3 (2 ∷ 2 ∷ []) (st n slots (now (masks .entry)) book) t)) ⌝ }
 {
-    let a = 8 * t;
-    if !bitset::is_empty(&masks[a..a + 8], 512) {
+    let a = TOP_WORDS * t;
+    if !bitset::is_empty(&masks[a..a + TOP_WORDS], Top::SIZE) {
         return false;
     }
-    let b = 64 + n + a;
-    bitset::is_empty(&masks[b..b + 8], 512)
+    let b = TOP_MASKS + n + a;
+    bitset::is_empty(&masks[b..b + TOP_WORDS], Top::SIZE)
 }
 
 // Whether a seat is empty: a look at the masks of its top, once the whole pool is known to be sound.

@@ -43,7 +43,7 @@ both-empty-requires c κs =
     let a = f .before .before .before .before .before .args in
     let z = is-sized (memOf (now (a .slots)) (now (a .masks)) (now (a .book))) _ (f .before .cells .ensures) (f .if1 .left) in
     let h = c .before .before .if2 .left in
-    (z .most, z .masks-fit, omega (arith, h))
+    (record { most = z .most; masks-fit = z .masks-fit }, omega (arith, h))
 
 returns-4 : tie.Need-returns-4
 returns-4 c =
