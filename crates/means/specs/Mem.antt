@@ -9,7 +9,7 @@ use lib.ListN.{length, getD}
 use lib.Dec.{ltb, leb, eqb}
 use Rattle.floats.specs.Value.{isFinite}
 use Rattle.bitset.specs.Set.{every}
-use Rattle.grid.specs.Geometry.{Point, below128}
+use Rattle.grid.specs.Geometry.{Point}
 use Rattle.grid.specs.Whole.{hasHollow, isEmpty}
 use Rattle.seats.specs.Call.{Call, One, Two, Prepare, Count, Lookup, Sign, Remove, Insert, Fill, Cut, Clear, Prune, Flip, FillSigns, IsEmpty, Copy, Combine}
 use Rattle.seats.specs.Refusal.{Reads}

@@ -3,14 +3,14 @@ use mathlib.Core.Path.{_≡_, refl, sym, ap, _∙_, subst}
 use mathlib.Core.Logic.{_⊎_, inl, inr}
 use mathlib.Core.Bool.{Bool, true, false, cond, _&&_}
 use mathlib.Core.List.{List}
-use Prim.Native.Nat.{ℕ, _+_, _-_, _*_, _<_, _≤_}
+use Prim.Native.Nat.{ℕ, _+_, _-_, _<_, _≤_}
 use native.Mathlib.Omega.{arith}
 use lib.ListN.{length, getD, set, length-set}
 use lib.Seq.{getD-set-same, getD-set-other}
 use lib.Dec.{ltb, leb, eqb}
 use borrow.Author.Tests.{lt-ltb, le-ltb, le-leb, lt-leb, eq-eqb, ne-eqb, ltb-true, leb-true}
 use Rattle.bitset.proofs.Digits.{lt-or-le, is-or-not}
-use Rattle.nodes.specs.State.{St, linked}
+use Rattle.nodes.specs.State.{linked}
 use Rattle.nodes.specs.Layout.{st, part, countPlace, head, stackPlace, bookLength}
 use Rattle.nodes.specs.Change.{at1, markS, next}
 use Rattle.nodes.specs.Steps.{takeS, giveS, Spare}

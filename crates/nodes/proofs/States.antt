@@ -1,12 +1,11 @@
 -- What lent memory holds, as the state: each field at a slot by the place of its word or bit. Assumes nothing.
-use mathlib.Core.Path.{_≡_, refl, sym, ap, _∙_, subst}
-use mathlib.Core.Bool.{Bool, true, false}
+use mathlib.Core.Path.{_≡_, refl, sym, _∙_}
+use mathlib.Core.Bool.{Bool, false}
 use mathlib.Core.List.{List}
-use Prim.Native.Nat.{ℕ, _+_, _*_, _<_, _≤_}
+use Prim.Native.Nat.{ℕ, _+_, _*_}
 use native.Mathlib.Omega.{arith}
 use lib.ListN.{length, getD}
 use Rattle.bitset.specs.Set.{bitOf}
-use Rattle.nodes.specs.State.{St}
 use Rattle.nodes.specs.Layout.{Sized, st, wordOf, kidBit, valBit, countPlace}
 use Rattle.nodes.specs.Range.{In, Placed, Cells, Masked, Booked}
 use Rattle.nodes.proofs.Places.{spread-in, placed}

@@ -1,7 +1,7 @@
 -- Where lent memory holds a pool of n cells: three slices. The places and lengths are defined here, and contracts cite these names; bodies have the constants of
 -- src/memory.rt. Assumes nothing.
 use mathlib.Core.Path.{_≡_}
-use mathlib.Core.Bool.{Bool, true, false, cond, _&&_}
+use mathlib.Core.Bool.{Bool, false, cond, _&&_}
 use mathlib.Core.List.{List}
 use Prim.Native.Nat.{ℕ, _+_, _*_, _<_}
 use lib.ListN.{length, getD}

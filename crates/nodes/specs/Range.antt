@@ -1,7 +1,7 @@
 -- What the code asks of numbers and lengths. Nothing is asked of what the memory holds. Assumes nothing.
 use mathlib.Core.Path.{_≡_}
 use mathlib.Core.List.{List}
-use Prim.Native.Nat.{ℕ, _+_, _*_, _<_, _≤_}
+use Prim.Native.Nat.{ℕ, _+_, _<_, _≤_}
 use lib.ListN.{length}
 use Rattle.grid.specs.Node.{size}
 use Rattle.nodes.specs.State.{wide}

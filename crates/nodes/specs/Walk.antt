@@ -2,11 +2,10 @@
 -- Assumes nothing.
 use mathlib.Core.Bool.{Bool, true, false, not, cond, _&&_, _||_}
 use mathlib.Core.List.{List, [], _∷_}
-use Prim.Native.Nat.{ℕ, zero, suc, _+_, _-_, _*_, _/_, _%_}
+use Prim.Native.Nat.{ℕ, zero, suc, _+_, _*_, _/_, _%_}
 use lib.IntN.{ℤ, pos}
 use lib.ListN.{length}
-use lib.Dec.{ltb, leb, eqb}
-use lib.Ieee.{Float, eq}
+use lib.Dec.{ltb, leb}
 use Rattle.floats.specs.Value.{value, isFinite, equal, far}
 use Rattle.grid.specs.Geometry.{Point, masked, slotOf}
 use Rattle.nodes.specs.State.{St}
@@ -16,7 +15,7 @@ use Rattle.nodes.specs.declared.walk.Slot.the-variants as slot
 use Rattle.nodes.specs.declared.walk.Ends.{Ends}
 use Rattle.nodes.specs.declared.walk.Ends.the-variants.{Active, Hidden, Broken}
 
--- ---- the levels of the grid of 128: 2 is a top, 1 a middle node, 0 a leaf
+-- ---- the table of levels of the grid of 128, "top 3, middle 2, leaf 2": 2 is a top, 1 a middle node, 0 a leaf
 
 abbrev pub branching : ℕ → ℕ
 branching zero = 2

@@ -1,19 +1,18 @@
 -- What preparing writes, from the words of each slice to the state. Assumes nothing.
 use mathlib.Core.Path.{_≡_, refl, sym, ap, _∙_, subst}
-use mathlib.Core.Bool.{Bool, true, false, _&&_, _||_, and-false}
+use mathlib.Core.Bool.{Bool, false, _&&_, _||_, and-false}
 use mathlib.Core.List.{List}
 use mathlib.Core.Logic.{_⊎_, inl, inr}
-use Prim.Native.Nat.{ℕ, _+_, _-_, _*_, _/_, _%_, _<_, _≤_}
+use Prim.Native.Nat.{ℕ, _+_, _-_, _*_, _<_, _≤_}
 use native.Mathlib.Omega.{arith}
 use lib.Dec.{ltb, leb}
 use lib.ListN.{length, getD, set, length-set}
 use lib.Seq.{getD-set-same, getD-set-other, length-take-le}
 use borrow.Author.Tests.{lt-ltb, le-ltb, le-leb, lt-leb}
 use borrow.Rule.Slice.PartMut.{putMid, same-len-mid}
-use Rattle.floats.specs.Value.{isFinite, far}
-use Rattle.floats.proofs.Finite.{finite-far}
+use Rattle.floats.specs.Value.{far}
 use Rattle.bitset.specs.Set.{bitOf}
-use Rattle.bitset.proofs.Digits.{lt-or-le, is-or-not}
+use Rattle.bitset.proofs.Digits.{is-or-not}
 use Rattle.bitset.proofs.Parts.{bit-put}
 use Rattle.nodes.specs.Layout.{st, wordOf, countPlace, head, tops, masksLength, bookLength}
 use Rattle.nodes.specs.Range.{In}

@@ -1,22 +1,21 @@
 -- One seat turned: the promise of a call that changes it, from what the code has done to the pool. Assumes nothing.
-use mathlib.Core.Path.{_≡_, refl, sym, ap, ap₂, _∙_, subst}
+use mathlib.Core.Path.{_≡_, refl, sym, ap, ap₂, _∙_}
 use mathlib.Core.Bool.{Bool, true, false, not, cond, _&&_}
-use mathlib.Core.List.{List, [], _∷_}
+use mathlib.Core.List.{[], _∷_}
 use mathlib.Core.Option.{Option, none, some}
-use Prim.Native.Nat.{ℕ, zero, suc, _+_, _*_, _-_, _/_, _<_, _≤_}
+use Prim.Native.Nat.{ℕ, zero, suc, _-_, _/_, _<_, _≤_}
 use native.Mathlib.Omega.{arith}
 use lib.ListN.{length}
-use lib.Dec.{leb, ltb, eqb}
+use lib.Dec.{leb, eqb}
 use borrow.Author.Tests.{lt-leb}
 use lib.Ieee.{Float}
 use Rattle.floats.specs.Value.{value, isFinite}
 use Rattle.grid.specs.Geometry.{Point, total}
 use Rattle.grid.specs.Node.{Node, put}
-use Rattle.grid.specs.Voxel.{insert, remove}
-use Rattle.seats.specs.Call.{Act, Call, Answer, One, Insert, Remove, refused, done}
+use Rattle.seats.specs.Call.{Act, Call, One, Insert, Remove, refused, done}
 use Rattle.seats.specs.Promise.{Keeps, turn, loose}
 use Rattle.seats.specs.Refusal.{refusal}
-use Rattle.seats.specs.Seat.{Seat, State, free}
+use Rattle.seats.specs.Seat.{Seat, State}
 use Rattle.seats.specs.Step.{act, served, step}
 use Rattle.seats.proofs.Refusal.{enough}
 use Rattle.seats.proofs.Promise.{served-step}
@@ -31,7 +30,7 @@ use Rattle.nodes.specs.Remove.{removeM}
 use Rattle.nodes.specs.Test.{soundB}
 use Rattle.means.specs.Level.{levels, Turned}
 use Rattle.means.specs.Mem.{Mem, lensOf, cellsOf, fits, poolOf, SoundMem, seatOf, stateOf, walk, whole, linked, readsIn}
-use Rattle.means.proofs.Memory.{Fitting, fitting, mem-sound, seat-is}
+use Rattle.means.proofs.Memory.{fitting, mem-sound, seat-is}
 use Rattle.means.proofs.SeatTurn.{turn-sound, turn-seats}
 use Rattle.means.proofs.Points.{voxel-alike, insert-same, remove-same}
 use Rattle.means.proofs.Insert.{insert-right}

@@ -8,7 +8,7 @@ use nodes::walk::Ends;
 ghost use mathlib.Core.Path.{_≡_};
 ghost use mathlib.Core.Bool.{true};
 ghost use mathlib.Core.List.{List, [], _∷_};
-ghost use Prim.Native.Nat.{ℕ, _<_, _≤_};
+ghost use Prim.Native.Nat.{ℕ, _<_};
 ghost use Rattle.grid.specs.Geometry.{Point};
 ghost use Rattle.seats.specs.Call.{One, Lookup, Insert, Remove};
 ghost use Rattle.floats.specs.Value.{isFinite};

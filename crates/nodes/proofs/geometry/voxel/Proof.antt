@@ -6,9 +6,6 @@ use Rattle.nodes.proofs.Voxels.{same-digits}
 use borrow.Author.Needs.{needs}
 use Rattle.nodes.proofs.geometry.voxel.Statement.{statement}
 use Rattle.nodes.proofs.geometry.voxel.Tie as tie
-use Rattle.nodes.proofs.geometry.voxel.Reads as reads
-use Rattle.nodes.proofs.geometry.voxel.Lts as lts
-use Rattle.nodes.proofs.geometry.masked7.Reads as masked7-reads
 
 masked7-requires : tie.Need-masked7-requires
 masked7-requires c κs = search needs
