@@ -53,7 +53,7 @@ fn free_all(book: &mut [u32], n: usize)
     requires { ⌜ Booked n (now book) ⌝ }
     ensures { λ _. ⌜ Freed n (now (book .exit)) ⌝ }
 {
-    fill(book, 0, 8, 0);
+    fill(book, 0, COUNT, 0);
     count_up(book, HEAD, n);
     count_up(book, HEAD + n, n);
     book[COUNT] = n as u32;
