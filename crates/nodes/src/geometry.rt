@@ -6,7 +6,7 @@ ghost use Rattle.grid.specs.Geometry.{masked, slotOf};
 ghost use Rattle.grid.specs.Node.{size};
 ghost use Rattle.nodes.specs.Walk.{branching, below, pointOf, voxelAt, voxels};
 
-// A level's constants are made of the branchings, as in the source. `size_in` and `voxel` hold them to the meaning: each size is proved, and the total of the top.
+// A level's constants are made of the branchings. `size_in` and `voxel` hold them to the meaning: each size is proved, and the total of the top.
 pub struct Top;
 
 pub struct Middle;
