@@ -1,22 +1,21 @@
 -- A promise kept, by what its verdict is: the order of the refusals is followed test by test. Assumes nothing.
 use mathlib.Core.Path.{_≡_, refl, sym, ap, ap₂, _∙_, subst}
-use mathlib.Core.Bool.{Bool, true, false, cond, not}
-use mathlib.Core.List.{List, [], _∷_}
-use mathlib.Core.Option.{Option, none, some}
-use Prim.Native.Nat.{ℕ, _+_, _<_, _≤_}
+use mathlib.Core.Bool.{Bool, true, false, cond}
+use mathlib.Core.List.{[], _∷_}
+use mathlib.Core.Option.{none, some}
+use Prim.Native.Nat.{ℕ, _<_, _≤_}
 use native.Mathlib.Omega.{arith}
 use lib.ListN.{length}
-use lib.Dec.{leb}
 use borrow.Author.Tests.{le-leb, lt-leb}
 use Rattle.grid.specs.Geometry.{Point, total}
 use Rattle.seats.specs.Call.{Act, Call, Answer, One, Lookup, refused, found}
 use Rattle.nodes.specs.State.{St}
 use Rattle.nodes.specs.Layout.{Sized, st}
-use Rattle.nodes.specs.Walk.{Reach, active, hidden, broken, reachS, floated, pointOf}
+use Rattle.nodes.specs.Walk.{Reach, active, hidden, broken, reachS, floated, pointOf, voxelOf}
 use Rattle.nodes.specs.declared.walk.Ends.{Ends}
 use Rattle.means.specs.Mem.{Mem, cellsOf, fits, poolOf, walk}
-use Rattle.means.proofs.Points.{voxelOf, reach-same, voxel-alike}
-use Rattle.means.proofs.Memory.{Fitting, fitting}
+use Rattle.means.proofs.Points.{reach-same, voxel-alike}
+use Rattle.means.proofs.Memory.{fitting}
 use Rattle.pool.specs.Answers.{Says, foundOf, shownE}
 use Rattle.pool.specs.declared.voxel.Found.{Found}
 

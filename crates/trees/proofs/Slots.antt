@@ -9,7 +9,7 @@ use lib.Dec.{ltb}
 use borrow.Author.Tests.{lt-ltb, le-ltb, ltb-true}
 use Rattle.bitset.specs.Set.{bitOf}
 use Rattle.nodes.specs.State.{St}
-use Rattle.nodes.specs.Layout.{st, wordOf, kidBit}
+use Rattle.nodes.specs.Layout.{st, wordOf, kidBit, slotsLength}
 use Rattle.nodes.specs.Range.{In}
 use Rattle.nodes.specs.Walk.{below}
 use Rattle.nodes.specs.declared.walk.Below.{Below}
@@ -87,7 +87,7 @@ module _ (s : St) (l x k : ℕ) {v : Bool} (e : v ≡ s .val x k) where
       go (suc l) z = sym (rw (sym e ∙ h) refl)
 
 -- ---- its word changed
-pub word-step : (n : ℕ) (sl sl' mk book : List ℕ) {x k : ℕ} (w : ℕ) → length sl ≡ 4096 + 64 * n → In n x k → sl' ≡ set sl (wordOf x k) w
+pub word-step : (n : ℕ) (sl sl' mk book : List ℕ) {x k : ℕ} (w : ℕ) → length sl ≡ slotsLength n → In n x k → sl' ≡ set sl (wordOf x k) w
     → st n sl' mk book ≡ wordS x k w (st n sl mk book)
 unfolding st wordS
 word-step n sl sl' mk book {x} {k} w z i p = st-ext _ _

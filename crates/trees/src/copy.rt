@@ -3,6 +3,10 @@ use super::slot;
 use nodes::cells;
 use nodes::geometry;
 use nodes::memory;
+use nodes::memory::BOTH_TOP_MASKS;
+use nodes::memory::CELL;
+use nodes::memory::TOP_MASKS;
+use nodes::memory::TOPS;
 use nodes::walk;
 use nodes::walk::Below;
 ghost use mathlib.Core.Path.{_≡_};
@@ -12,8 +16,8 @@ ghost use Prim.Native.Nat.{ℕ, _+_, _-_, _*_, _/_, _%_, _<_, _≤_};
 ghost use lib.ListN.{length, getD};
 ghost use lib.Dec.{eqb};
 ghost use Rattle.bitset.specs.Set.{bitOf};
-ghost use Rattle.nodes.specs.Layout.{Sized, st};
-ghost use Rattle.nodes.specs.Range.{In, Stands, Cells};
+ghost use Rattle.nodes.specs.Layout.{Sized, st, slotsLength};
+ghost use Rattle.nodes.specs.Range.{In, Stands, Cells, Masked};
 ghost use Rattle.nodes.specs.Walk.{branching, below};
 ghost use Rattle.trees.specs.Copy.{sameS, copyAt, copyM};
 
@@ -29,13 +33,13 @@ fn same(slots: &mut [u32], masks: &mut [u64], n: usize, x: usize, y: usize, k: u
 
 // The 64 words of cell c, to cell d.
 fn copy_words(slots: &mut [u32], c: usize, d: usize)
-    requires { ⌜ (c < 65536) × (d < 65536) × (4096 + 64 * c + 64 ≤ length (now slots)) × (4096 + 64 * d + 64 ≤ length (now slots)) ⌝ }
+    requires { ⌜ (c < 65536) × (d < 65536) × (slotsLength (c + 1) ≤ length (now slots)) × (slotsLength (d + 1) ≤ length (now slots)) ⌝ }
     ensures { λ _. ⌜ ((i : ℕ) → getD (now (slots .exit)) i 0 ≡ cond (eqb (i / 64) (64 + d)) (getD (now (slots .entry)) (64 * (64 + c) + i % 64) 0) (getD (now (slots .entry)) i 0)) ⌝ }
 {
-    let from = 4096 + 64 * c;
-    let to = 4096 + 64 * d;
+    let from = TOPS + CELL * c;
+    let to = TOPS + CELL * d;
     let mut i = 0;
-    while i < 64 {
+    while i < CELL {
         slots[to + i] = slots[from + i];
         i += 1;
     }
@@ -43,13 +47,13 @@ fn copy_words(slots: &mut [u32], c: usize, d: usize)
 
 // The masks of cell c, to cell d: no child, and its values.
 fn copy_masks(masks: &mut [u64], n: usize, c: usize, d: usize)
-    requires { ⌜ (n < 65536) × (length (now masks) ≡ 128 + 2 * n) × (c < n) × (d < n) ⌝ }
+    requires { ⌜ (Masked n (now masks)) × (c < n) × (d < n) ⌝ }
     ensures { λ _. ⌜ ((j : ℕ) → bitOf (now (masks .exit)) j
         ≡ cond (eqb (j / 64) (128 + n + d)) (bitOf (now (masks .entry)) (64 * (128 + n + c) + j % 64)) (cond (eqb (j / 64) (64 + d)) false (bitOf (now (masks .entry)) j))) ⌝ }
 {
-    let values = masks[128 + n + c];
-    masks[64 + d] = 0;
-    masks[128 + n + d] = values;
+    let values = masks[BOTH_TOP_MASKS + n + c];
+    masks[TOP_MASKS + d] = 0;
+    masks[BOTH_TOP_MASKS + n + d] = values;
 }
 
 // Every slot of leaf y becomes what that of leaf x is, as one piece.

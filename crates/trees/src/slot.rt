@@ -3,10 +3,9 @@ use nodes::memory;
 use nodes::walk::Below;
 ghost use mathlib.Core.Path.{_≡_};
 ghost use mathlib.Core.List.{List};
-ghost use Prim.Native.Nat.{ℕ, _+_, _*_, _<_};
-ghost use lib.ListN.{length};
+ghost use Prim.Native.Nat.{ℕ};
 ghost use Rattle.nodes.specs.Layout.{st};
-ghost use Rattle.nodes.specs.Range.{In, Cells};
+ghost use Rattle.nodes.specs.Range.{In, Cells, Slotted, Masked};
 ghost use Rattle.nodes.specs.Walk.{below};
 ghost use Rattle.trees.specs.Slot.{childR, hiddenS, wordS};
 
@@ -27,7 +26,7 @@ pub fn child(slots: &[u32], masks: &[u64], n: usize, x: usize, k: usize) -> Belo
 
 // Slot k of node x of a level is neither active nor a branch. The child mask of a leaf is not looked at.
 pub fn hidden(masks: &[u64], n: usize, level: usize, x: usize, k: usize) -> bool
-    requires { ⌜ (n < 65536) × (length (now masks) ≡ 128 + 2 * n) × In n x k ⌝ }
+    requires { ⌜ (Masked n (now masks)) × In n x k ⌝ }
     ensures { λ r. ⌜ ((slots book : List ℕ) → r ≡ hiddenS (below level) (st n slots (now (masks .entry)) book) x k) ⌝ }
 {
     if memory::val(masks, n, x, k) {
@@ -41,7 +40,7 @@ pub fn hidden(masks: &[u64], n: usize, level: usize, x: usize, k: usize) -> bool
 
 // Slot k of node x holds the word w, and is active, hidden or a branch as before.
 pub fn set_value(slots: &mut [u32], n: usize, x: usize, k: usize, w: u32)
-    requires { ⌜ (n < 65536) × (length (now slots) ≡ 4096 + 64 * n) × In n x k ⌝ }
+    requires { ⌜ (Slotted n (now slots)) × In n x k ⌝ }
     ensures { λ _. ⌜ ((masks book : List ℕ) → st n (now (slots .exit)) masks book ≡ wordS x k w (st n (now (slots .entry)) masks book)) ⌝ }
 {
     memory::set_word(slots, x, k, w);

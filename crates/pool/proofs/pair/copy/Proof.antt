@@ -1,8 +1,7 @@
 use Rattle.seats.specs.Call.{Two, Copy}
-use Rattle.pool.specs.Answers.{memOf}
-use Rattle.pool.proofs.Guards.{served-sized, none-served}
+use Rattle.pool.specs.Answers.{memOf, codeOf}
+use Rattle.pool.proofs.Guards.{blocked-says, served-sized, none-served}
 use Rattle.pool.proofs.Pairs.{copy-low, copy-says}
-use Rattle.pool.proofs.Turns.{blocked-says}
 use borrow.Author.Needs.{needs}
 use Rattle.pool.proofs.pair.copy.Statement.{statement}
 use Rattle.pool.proofs.pair.copy.Tie as tie
@@ -20,7 +19,7 @@ same-length-3 : tie.Need-same-length-3
 same-length-3 c = search needs
 
 returns : tie.Need-returns
-returns c = let a = c .before .before .before .before .before .before .before .before .args in blocked-says (Two Copy (a .from) (a .to)) (memOf (a .slots .now) (a .masks .now) (a .book .now)) _ (c .before .copy-barred .ensures) (c .if1 .taken)
+returns c = let a = c .before .before .before .before .before .before .before .before .args in blocked-says codeOf (Two Copy (a .from) (a .to)) (memOf (a .slots .now) (a .masks .now) (a .book .now)) _ (c .before .copy-barred .ensures) (c .if1 .taken)
 
 cells-requires : tie.Need-cells-requires
 cells-requires c κs = search needs

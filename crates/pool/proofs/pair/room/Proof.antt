@@ -16,7 +16,7 @@ cells-requires : tie.Need-cells-requires
 cells-requires c κs = search needs
 
 both-empty-requires : tie.Need-both-empty-requires
-both-empty-requires c κs = let p = c .before .before .before .before in let a = p .args in let h = c .cells .ensures in let z = is-sized (memOf (now (a .slots)) (now (a .masks)) (now (a .book))) _ h (counted-some (memOf (now (a .slots)) (now (a .masks)) (now (a .book))) _ h (p .pre .0)) in (z .most, z .masks-fit, p .pre .2)
+both-empty-requires c κs = let p = c .before .before .before .before in let a = p .args in let h = c .cells .ensures in let z = is-sized (memOf (now (a .slots)) (now (a .masks)) (now (a .book))) _ h (counted-some (memOf (now (a .slots)) (now (a .masks)) (now (a .book))) _ h (p .pre .0)) in (record { most = z .most; masks-fit = z .masks-fit }, p .pre .2)
 
 returns : tie.Need-returns
 returns c = let p = c .before .before .before .before .before .before in let a = p .args in room-8 (memOf (now (a .slots)) (now (a .masks)) (now (a .book))) _ (c .before .before .cells .ensures) (p .pre .0) (a .from) (a .to) _ (c .before .both-empty .ensures _ _) (not-true _ (c .if1 .taken))

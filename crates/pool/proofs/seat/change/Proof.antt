@@ -1,9 +1,8 @@
 use Rattle.seats.specs.Call.{One}
-use Rattle.pool.specs.Answers.{memOf}
+use Rattle.pool.specs.Answers.{memOf, codeOf}
 use Rattle.pool.specs.Task.{actOf}
-use Rattle.pool.proofs.Guards.{served-seat, served-sized, none-served}
+use Rattle.pool.proofs.Guards.{blocked-says, served-seat, served-sized, none-served}
 use Rattle.pool.proofs.Tasks.{change-says}
-use Rattle.pool.proofs.Turns.{blocked-says}
 use borrow.Author.Needs.{needs}
 use Rattle.pool.proofs.seat.change.Statement.{statement}
 use Rattle.pool.proofs.seat.change.Tie as tie
@@ -21,7 +20,7 @@ same-length-3 : tie.Need-same-length-3
 same-length-3 c = search needs
 
 returns : tie.Need-returns
-returns c = let a = c .before .before .before .before .before .before .before .before .args in blocked-says (One (a .seat) (actOf (a .task))) (memOf (a .slots .now) (a .masks .now) (a .book .now)) _ (c .before .barred .ensures) (c .if1 .taken)
+returns c = let a = c .before .before .before .before .before .before .before .before .args in blocked-says codeOf (One (a .seat) (actOf (a .task))) (memOf (a .slots .now) (a .masks .now) (a .book .now)) _ (c .before .barred .ensures) (c .if1 .taken)
 
 cells-requires : tie.Need-cells-requires
 cells-requires c κs = search needs

@@ -95,7 +95,7 @@ hollow-at-sub-bare : (t : ℕ) → hollow-at-lts.Need-sub-bare (hollow-at-claims
 hollow-at-sub-bare t c = omega (arith, c .before .before .before .before .before .before .pre .1 .3)
 
 hollow-at-bare-requires : (t : ℕ) → hollow-at-lts.Need-bare-requires (hollow-at-claims t) (hollow-at-at t) hollow-at′.Post
-hollow-at-bare-requires t c κs = let a = c .before .before .before .before .before .before .args in (c .before .before .before .before .before .before .pre .1 .0 .most, c .before .before .before .before .before .before .pre .1 .0 .masks-fit, child-go (a .n) (st (a .n) (a .slots .now) (a .masks .now) []) (a .x) (a .k) (sym (c .before .c .given .1) ∙ c .before .before .before .child .ensures []) .low)
+hollow-at-bare-requires t c κs = let a = c .before .before .before .before .before .before .args in (record { most = c .before .before .before .before .before .before .pre .1 .0 .most; masks-fit = c .before .before .before .before .before .before .pre .1 .0 .masks-fit }, child-go (a .n) (st (a .n) (a .slots .now) (a .masks .now) []) (a .x) (a .k) (sym (c .before .c .given .1) ∙ c .before .before .before .child .ensures []) .low)
 
 hollow-at-returns-2 : (t : ℕ) → hollow-at-lts.Need-returns-2 (hollow-at-claims t) (hollow-at-at t) hollow-at′.Post
 hollow-at-returns-2 t c = λ book. hollow-bare _ (c .before .before .before .before .before .before .before .before .args .level - 1) _ _ _ (sym (c .before .before .before .c .given .1) ∙ c .before .before .before .before .before .child .ensures book) (c .before .bare .ensures _ _) (c .if1 .taken)

@@ -22,7 +22,7 @@ sub-copy-masks-2 : tie.Need-sub-copy-masks-2
 sub-copy-masks-2 c = omega (arith, leaf-cell (c .before .before .before .before .before .before .before .pre .2) refl)
 
 copy-masks-requires : tie.Need-copy-masks-requires
-copy-masks-requires c κs = (c .before .before .before .before .before .before .before .pre .0 .most, c .before .before .before .before .before .before .before .pre .0 .masks-fit, omega (arith, c .before .before .before .before .before .before .before .pre .1 .node, leaf-cell (c .before .before .before .before .before .before .before .pre .1) refl), omega (arith, c .before .before .before .before .before .before .before .pre .2 .node, leaf-cell (c .before .before .before .before .before .before .before .pre .2) refl))
+copy-masks-requires c κs = (record { most = c .before .before .before .before .before .before .before .pre .0 .most; masks-fit = c .before .before .before .before .before .before .before .pre .0 .masks-fit }, omega (arith, c .before .before .before .before .before .before .before .pre .1 .node, leaf-cell (c .before .before .before .before .before .before .before .pre .1) refl), omega (arith, c .before .before .before .before .before .before .before .pre .2 .node, leaf-cell (c .before .before .before .before .before .before .before .pre .2) refl))
 
 same-length : tie.Need-same-length
 same-length c = search needs

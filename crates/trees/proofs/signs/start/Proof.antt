@@ -28,7 +28,7 @@ hidden-requires : tie.Need-hidden-requires Inv-loop μ-loop
 hidden-requires c κs =
     let d = c .before .before in
     let p = d .before .before .before .pre in
-    (p .0 .most, p .0 .masks-fit, slot-of (p .1) (d .size-in .ensures) (c .loop-test .taken))
+    (record { most = p .0 .most; masks-fit = p .0 .masks-fit }, slot-of (p .1) (d .size-in .ensures) (c .loop-test .taken))
 
 sign-of-requires : tie.Need-sign-of-requires Inv-loop μ-loop
 sign-of-requires c κs =
