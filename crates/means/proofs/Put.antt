@@ -1,4 +1,4 @@
--- A value put in a slot that is no branch. Assumes nothing.
+-- A slot that is no branch: a value put in it, hidden, or its word changed. Assumes nothing.
 use mathlib.Core.Path.{_≡_, refl, sym, ap, ap₂, _∙_, subst, fun-ext}
 use mathlib.Core.Bool.{Bool, true, false, cond, _&&_, false≢true}
 use mathlib.Core.Logic.{_≢_, _⊎_, inl, inr}

@@ -1,4 +1,4 @@
-// The changes that every call on a pool is made of: a slot is given a word, a branch is added.
+// The changes that every call on a pool is made of: a slot is given a word, a branch is added or released, a seat is marked.
 use super::geometry::Top;
 use super::memory;
 use super::memory::BOTH_TOP_MASKS;

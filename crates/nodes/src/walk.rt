@@ -121,7 +121,7 @@ fn stays(u: u32, w: u32) -> bool
     true
 }
 
-// Where an insert or a remove goes on: in a cell, or nowhere.
+// Where a walk goes on: in a cell, or nowhere.
 pub enum Below {
     Go(usize),
     Stop,

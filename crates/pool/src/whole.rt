@@ -1,4 +1,4 @@
-// Preparing and counting the pool, and the calls that only read a seat. Preparing alone changes memory, and only once the lengths are known to belong together.
+// Preparing and counting the pool, and the calls that ask whether something is so of a seat. Preparing alone changes memory, and only once the lengths are known to belong together.
 use super::guard;
 use super::lengths;
 use nodes::geometry::Top;

@@ -1,4 +1,4 @@
--- What is done to all that hangs below a node.
+-- What is done to all that hangs below a node, and what is read of it.
 pub mod Slot
 pub mod Turn
 pub mod Signs

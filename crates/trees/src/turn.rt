@@ -13,7 +13,7 @@ ghost use Rattle.nodes.specs.Range.{In, Stands, Cells};
 ghost use Rattle.nodes.specs.Walk.{branching, below};
 ghost use Rattle.trees.specs.Turn.{hideIfS, flatS, backS, turnAt, turnM};
 
-// What is done to a whole seat.
+// What is done to every slot of a node and of all that hangs below it.
 pub enum Work {
     Prune,
     Cut(Test),
