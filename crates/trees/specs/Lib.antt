@@ -1,6 +1,8 @@
--- What is done to all that hangs below a node, and what is read of it.
+-- What is done to all that hangs below a node.
 pub mod Slot
 pub mod Turn
 pub mod Signs
 pub mod Below
 pub mod Copy
+pub mod Plan
+pub mod Combine

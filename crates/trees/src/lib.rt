@@ -2,6 +2,9 @@
 // trusts what the memory holds: a slot leads to a cell only where its link stays in the pool, and the level falls at each step down.
 pub mod below;
 pub mod copy;
+pub mod leaf;
+pub mod plan;
 pub mod signs;
 pub mod slot;
+pub mod take;
 pub mod turn;

@@ -1,0 +1,1 @@
+-- The laws that belong to no one function.
