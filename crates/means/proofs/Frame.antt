@@ -1,13 +1,17 @@
 -- A tree is read from its own nodes alone, and on a sound pool no two branches share a node. Assumes nothing.
 use mathlib.Core.Path.{_≡_, refl, sym, ap, _∙_, subst, fun-ext}
 use mathlib.Core.Bool.{true, cond}
-use mathlib.Core.Logic.{_≢_, inl, inr}
+use mathlib.Core.Logic.{_≢_, _⊎_, inl, inr}
 use Prim.Native.Nat.{ℕ, zero, suc, _+_, _-_, _/_, _%_, _<_, _≤_}
+use native.Mathlib.Decide.{ℕ-discrete}
 use native.Mathlib.Omega.{arith}
 use native.Mathlib.Nat.{mod-lt}
 use lib.Dec.{ltb}
 use borrow.Author.Tests.{lt-ltb, le-ltb}
-use Rattle.nodes.specs.State.{St, linked, Used, Live, Link, Sound, tree}
+use Rattle.grid.specs.Node.{SlotOf, changed}
+use Rattle.grid.proofs.Places.{changed-is}
+use Rattle.nodes.specs.State.{St, linked, Used, Live, Link, Sound, slotAt, tree}
+use Rattle.nodes.specs.Walk.{below}
 use Rattle.means.specs.Level.{span, treeAt, At, In, Equal, Same}
 use Rattle.means.proofs.Slots.{flat-same, slot-same}
 use Rattle.means.proofs.Levels.{wide-top, wide-cell, wide-most, tag-of, span-pos, at-wide, at-inside, at-live, at-link, at-down}
@@ -32,6 +36,28 @@ in-frame (suc l) s r x h y (inr (k, q, t, i)) =
     let e : Equal s r x k = h x (inl refl) k in
     let t' : s .kid x k ≡ true = e .kid ∙ t in
     inr (k, q, t', in-frame l s r (8 + s .slot x k) (λ z j. h z (inr (k, q, t', j))) y (subst (λ (c : ℕ). In l r (8 + c) y) (sym (e .slot)) i))
+
+-- ---- a node of which at most slot k has changed, and no other branch
+module _ (l : ℕ) (s r : St) (x k : ℕ) (beside : (j : ℕ) → j ≢ k → Equal s r x j)
+    (aside : (j : ℕ) → j < span (suc l) → j ≢ k → s .kid x j ≡ true → (y : ℕ) → In l s (8 + s .slot x j) y → Same s r y) where
+  pub slot-tree : (t : SlotOf (below (suc l))) → slotAt (treeAt l r) r x k ≡ t → treeAt (suc l) r x ≡ changed (span (suc l)) k (λ _. t) (treeAt (suc l) s x)
+  unfolding tree
+  slot-tree t e = changed-is (span (suc l)) k (λ _. t) (treeAt (suc l) s x) (treeAt (suc l) r x)
+      (λ m p. subst (λ (j : ℕ). slotAt (treeAt l r) r x j ≡ t) (sym p) e)
+      (λ m ne. sym (slot-same (beside (m % span (suc l)) ne) (treeAt l s) (treeAt l r)
+      (λ on. tree-frame l s r (8 + s .slot x (m % span (suc l))) (aside (m % span (suc l)) (mod-lt m (span-pos (suc l))) ne on))))
+
+  -- what is in its tree now was there, or is below slot k
+  pub slot-in : (y : ℕ) → In (suc l) r x y → In (suc l) s x y ⊎ ((r .kid x k ≡ true) × In l r (8 + r .slot x k) y)
+  slot-in y (inl i) = inl (inl i)
+  slot-in y (inr (j, q, on, i)) = go (ℕ-discrete j k)
+    where
+      go : Dec (j ≡ k) → In (suc l) s x y ⊎ ((r .kid x k ≡ true) × In l r (8 + r .slot x k) y)
+      go (yes p) = inr (sym (ap (r .kid x) p) ∙ on, subst (λ (j : ℕ). In l r (8 + r .slot x j) y) p i)
+      go (no ne) =
+          let e : Equal s r x j = beside j ne in
+          let on' : s .kid x j ≡ true = e .kid ∙ on in
+          inl (inr (j, q, on', in-frame l s r (8 + s .slot x j) (aside j q ne on') y (subst (λ (c : ℕ). In l r (8 + c) y) (sym (e .slot)) i)))
 
 -- ---- separation
 
@@ -73,12 +99,15 @@ module _ {n : ℕ} {s : St} (sd : Sound n s) where
       }
   under (suc (suc l)) x k h q e y i = absurd (omega (arith, h .1))
 
-  -- no node below a branch is the node itself
+  -- no node below a branch is a node of the branch's own level, nor the node itself
+  pub level-apart : (l x y k : ℕ) → At n s (suc l) x → At n s (suc l) y → k < span (suc l) → s .kid y k ≡ true → (z : ℕ) → In l s (8 + s .slot y k) z → z ≢ x
+  level-apart zero x y k h h' q e z i p =
+      let t : s .tag (x - 8) ≡ linked y k = ap (λ (u : ℕ). s .tag (u - 8)) (sym p) ∙ under zero y k h' q e z i .found in
+      omega (arith, h' .0, h .2 .1)
+  level-apart (suc l) x y k h h' q e z i p = omega (arith, h .0, under (suc l) y k h' q e z i .cell)
+
   pub own-apart : (l x k : ℕ) → At n s (suc l) x → k < span (suc l) → s .kid x k ≡ true → (y : ℕ) → In l s (8 + s .slot x k) y → y ≢ x
-  own-apart zero x k h q e y i p =
-      let t : s .tag (x - 8) ≡ linked x k = ap (λ (z : ℕ). s .tag (z - 8)) (sym p) ∙ under zero x k h q e y i .found in
-      omega (arith, h .0, h .2 .1)
-  own-apart (suc l) x k h q e y i p = omega (arith, h .0, under (suc l) x k h q e y i .cell)
+  own-apart l x k h = level-apart l x x k h h
 
   -- two branches that reach a common node are one
   pub branch-apart : (l x k x' k' : ℕ) → At n s (suc l) x → At n s (suc l) x' → k < span (suc l) → k' < span (suc l) → s .kid x k ≡ true → s .kid x' k' ≡ true
@@ -88,12 +117,13 @@ module _ {n : ℕ} {s : St} (sd : Sound n s) where
       let w : span (suc l) ≤ 512 = subst (λ (m : ℕ). m ≤ 512) (at-wide n s (suc l) x h) (wide-most x) in
       (omega arith, omega arith)
 
-  -- two tops that reach a common node are one
-  pub top-apart : (t t' : ℕ) → t < 8 → t' < 8 → (y : ℕ) → In 2 s t y → In 2 s t' y → t ≡ t'
-  top-apart t t' h h' y (inl i) (inl i') = sym i ∙ i'
-  top-apart t t' h h' y (inl i) (inr (k, q, e, i')) = absurd (omega (arith, i, under 1 t' k (h', refl) q e y i' .cell))
-  top-apart t t' h h' y (inr (k, q, e, i)) (inl i') = absurd (omega (arith, i', under 1 t k (h, refl) q e y i .cell))
-  top-apart t t' h h' y (inr (k, q, e, i)) (inr (k', q', e', i')) = branch-apart 1 t k t' k' (h, refl) (h', refl) q q' e e' y i i' .0
+  -- two nodes of one level that reach a common node are one
+  pub node-apart : (l x x' : ℕ) → At n s l x → At n s l x' → (y : ℕ) → In l s x y → In l s x' y → x ≡ x'
+  node-apart zero x x' h h' y i i' = sym i ∙ i'
+  node-apart (suc l) x x' h h' y (inl i) (inl i') = sym i ∙ i'
+  node-apart (suc l) x x' h h' y (inl i) (inr (k, q, e, i')) = absurd (level-apart l x x' k h h' q e y i' i)
+  node-apart (suc l) x x' h h' y (inr (k, q, e, i)) (inl i') = absurd (level-apart l x' x k h' h q e y i i')
+  node-apart (suc l) x x' h h' y (inr (k, q, e, i)) (inr (k', q', e', i')) = branch-apart l x k x' k' h h' q q' e e' y i i' .0
 
   -- a node in a tree counts
   pub in-there : (l x : ℕ) → At n s l x → (y : ℕ) → In l s x y → (y < 8 + n) × Live s y

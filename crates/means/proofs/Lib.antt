@@ -9,6 +9,7 @@ pub mod Each
 pub mod Frame
 pub mod Grow
 pub mod Insert
+pub mod Joined
 pub mod Levels
 pub mod Lookup
 pub mod Loose

@@ -1,7 +1,7 @@
 -- The laws of a node turned into another: nothing done, one after another, below a branch, and what another top sees. Assumes nothing.
 use mathlib.Core.Path.{_≡_, refl, sym, ap, _∙_, subst}
 use mathlib.Core.Bool.{true}
-use mathlib.Core.Logic.{_≢_, inl, inr}
+use mathlib.Core.Logic.{_≢_, inl, inr, ⊎-elim}
 use Prim.Native.Nat.{ℕ, suc, _+_, _-_, _%_, _<_}
 use native.Mathlib.Decide.{ℕ-discrete}
 use native.Mathlib.Nat.{mod-lt}
@@ -12,7 +12,7 @@ use Rattle.nodes.specs.Walk.{branching, below}
 use Rattle.means.specs.Level.{levels, span, treeAt, At, In, Same, Kept, Outside, Turned}
 use Rattle.means.proofs.Levels.{span-pos, at-inside, at-live, kept-live, kept-at}
 use Rattle.means.proofs.Slots.{slot-same, slot-branch, tree-round, changed-twice, changed-like, changed-none}
-use Rattle.means.proofs.Frame.{in-own, tree-frame, in-frame, Under, under, own-apart, branch-apart, top-apart, in-there}
+use Rattle.means.proofs.Frame.{in-own, tree-frame, in-frame, Under, under, own-apart, branch-apart, node-apart, in-there, slot-tree, slot-in}
 
 -- ---- what is kept
 pub kept-then : {s r t : St} {y : ℕ} → Kept s r y → Kept r t y → Kept s t y
@@ -63,7 +63,10 @@ module _ {n l y : ℕ} {s r : St} {g : Node (levels l)} (sd : Sound n s) (a : Tu
   apart-same : (z : ℕ) → In l s x z → Same s r z
   apart-same z i = a .keep z (apart-out z i) .slots
 
-  -- it is as it was, and still shares none
+  -- its nodes, and it is as it was and still shares none
+  pub apart-in : (z : ℕ) → In l r x z → In l s x z
+  apart-in = in-frame l s r x apart-same
+
   pub apart-kept : Kept s r x
   apart-kept = a .keep x (apart-out x (in-own l s x))
 
@@ -74,11 +77,14 @@ module _ {n l y : ℕ} {s r : St} {g : Node (levels l)} (sd : Sound n s) (a : Tu
   apart-tree = tree-frame l s r x apart-same
 
   pub apart-still : Apart l r x y
-  apart-still z i = a .within z (apart-out z (in-frame l s r x apart-same z i))
+  apart-still z i = a .within z (apart-out z (apart-in z i))
 
--- another top
+-- another node of its level; another top
+pub nodes-apart : {n : ℕ} {s : St} → Sound n s → (l x x' : ℕ) → At n s l x → At n s l x' → x ≢ x' → Apart l s x x'
+nodes-apart sd l x x' h h' ne z i j = ne (node-apart sd l x x' h h' z i j)
+
 pub tops-apart : {n : ℕ} {s : St} → Sound n s → (t t' : ℕ) → t < 8 → t' < 8 → t ≢ t' → Apart 2 s t t'
-tops-apart sd t t' h h' ne z i j = ne (top-apart sd t t' h h' z i j)
+tops-apart sd t t' h h' ne = nodes-apart sd 2 t t' (h, refl) (h', refl) ne
 
 pub others : {n : ℕ} {s r : St} (sd : Sound n s) (t t' : ℕ) → t < 8 → t' < 8 → t' ≢ t → {g : Node (levels 2)} → Turned n 2 t s r g → treeAt 2 s t' ≡ treeAt 2 r t'
 others sd t t' h h' ne a = apart-tree sd a t' (h', refl) (tops-apart sd t' t h' h ne)
@@ -114,35 +120,17 @@ module _ {n : ℕ} {s : St} (sd : Sound n s) (l x i : ℕ) (h : At n s (suc l) x
   deeper y o = record { inside = o .inside; live = o .live; out = λ j. o .out (inr (i, q, e, j)) }
 
   none-in : (y : ℕ) → Outside n (suc l) s x y → In (suc l) r x y → ⊥
-  none-in y o (inl j) = o .out (inl j)
-  none-in y o (inr (k, p, t, j)) = go (ℕ-discrete k i)
-    where
-      t' : s .kid x k ≡ true
-      t' = own .slots k .kid ∙ t
-
-      j' : In l r (8 + s .slot x k) y
-      j' = subst (λ (c : ℕ). In l r (8 + c) y) (sym (own .slots k .slot)) j
-
-      go : Dec (k ≡ i) → ⊥
-      go (yes d) = a .within y (deeper y o) (subst (λ (k : ℕ). In l r (8 + s .slot x k) y) d j')
-      go (no d) = o .out (inr (k, p, t', in-frame l s r (8 + s .slot x k) (aside k p d t') y j'))
-
-  lifted : treeAt (suc l) r x ≡ changed (span (suc l)) i (λ _. branch g) (treeAt (suc l) s x)
-  unfolding tree
-  lifted = changed-is (span (suc l)) i (λ _. branch g) (treeAt (suc l) s x) (treeAt (suc l) r x)
-      (λ k p. subst (λ (j : ℕ). slotAt (treeAt l r) r x j ≡ branch g) (sym p) here)
-      (λ k ne. sym (slot-same (own .slots (k % span (suc l))) (treeAt l s) (treeAt l r)
-      (λ t. tree-frame l s r (8 + s .slot x (k % span (suc l))) (aside (k % span (suc l)) (mod-lt k (span-pos (suc l))) ne t))))
-    where
-      here : slotAt (treeAt l r) r x i ≡ branch g
-      here = slot-branch (treeAt l r) r x i (sym (own .slots i .kid) ∙ e) ∙ ap branch (ap (λ (c : ℕ). treeAt l r (8 + c)) (sym (own .slots i .slot)) ∙ a .grid)
+  none-in y o j = ⊎-elim (o .out)
+      (λ p. a .within y (deeper y o) (subst (λ (c : ℕ). In l r (8 + c) y) (sym (own .slots i .slot)) (p .1)))
+      (slot-in l s r x i (λ k _. own .slots k) aside y j)
 
   pub lift : Turned n (suc l) x s r (changed (span (suc l)) i (λ _. branch g) (treeAt (suc l) s x))
   lift =
       record {
         sound = a .sound;
         at = kept-at n (suc l) x s r (own .tag) h;
-        grid = lifted;
+        grid = slot-tree l s r x i (λ k _. own .slots k) aside (branch g)
+            (slot-branch (treeAt l r) r x i (sym (own .slots i .kid) ∙ e) ∙ ap branch (ap (λ (c : ℕ). treeAt l r (8 + c)) (sym (own .slots i .slot)) ∙ a .grid));
         keep = λ y o. a .keep y (deeper y o);
         within = none-in;
         marks = a .marks;

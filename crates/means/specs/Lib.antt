@@ -1,5 +1,6 @@
 -- What the memory of a pool stands for.
 pub mod Ends
+pub mod Joined
 pub mod Level
 pub mod Mem
 pub mod Owner

@@ -1,0 +1,33 @@
+-- The relation in which every change of two nodes of one level stands, of which one, y, is joined into the other, x. Assumes nothing.
+use mathlib.Core.Path.{_≡_}
+use mathlib.Core.Logic.{_⊎_}
+use Prim.Native.Nat.{ℕ, _+_, _<_, _≤_}
+use Rattle.grid.specs.Node.{Node}
+use Rattle.grid.specs.Combine.{Operation, union, intersect}
+use Rattle.nodes.specs.State.{St, Live, Sound}
+use Rattle.trees.specs.declared.plan.Join.{Join}
+use Rattle.trees.specs.declared.plan.Join.the-variants.{Union, Intersect}
+use Rattle.means.specs.Level.{levels, span, treeAt, At, In, Kept}
+
+-- the meaning's operation
+abbrev pub joinO : Join → Operation
+joinO Union = union
+joinO Intersect = intersect
+
+-- node z counts, and is in the tree of neither x nor y
+pub record Beyond (n l : ℕ) (s : St) (x y z : ℕ) : Type 0 where
+  pub inside : z < 8 + n
+  pub live : Live s z
+  pub out : In l s x z ⊎ In l s y z → ⊥
+
+-- from s to r, node x of level l has become g, with what was in the first m slots of node y; the other slots of y are as they were, and nothing outside the two
+-- trees has changed or come into them
+pub record Joined (n l x y m : ℕ) (s r : St) (g : Node (levels l)) : Type 0 where
+  pub sound : Sound n r
+  pub at-x : At n r l x
+  pub at-y : At n r l y
+  pub grid : treeAt l r x ≡ g
+  pub rest : (j : ℕ) → m ≤ j → j < span l → treeAt l r y j ≡ treeAt l s y j
+  pub keep : (z : ℕ) → Beyond n l s x y z → Kept s r z
+  pub within : (z : ℕ) → Beyond n l s x y z → In l r x z ⊎ In l r y z → ⊥
+  pub marks : r .mark ≡ s .mark
