@@ -2,6 +2,7 @@
 pub mod Attach
 pub mod Bare
 pub mod Below
+pub mod Combine
 pub mod Copy
 pub mod Count
 pub mod Drop
@@ -28,6 +29,7 @@ pub mod Signs
 pub mod SlotSigns
 pub mod Slots
 pub mod Sums
+pub mod Take
 pub mod Test
 pub mod Turn
 pub mod Turned

@@ -73,6 +73,11 @@ module _ (n : ℕ) where
 pub wipe-right : {n : ℕ} {s : St} (l x w : ℕ) (a : Bool) → Sound n s → At n s l x → isFinite w ≡ true → Turned n l x s (wipeM (branching l) (below l) n w a x s) (filled l w a)
 wipe-right {n} {s} l x w a = wiped n l s x w a
 
+-- and one slot of a node above the leaves
+pub wipe-slot : {n : ℕ} {s : St} (l x k w : ℕ) (a : Bool) → Sound n s → At n s (suc l) x → k < span (suc l) → isFinite w ≡ true
+    → Turned n (suc l) x s (wipeAt (emptyM n l) n w a x k s) (changed (span (suc l)) k (λ _. cond a (tile w) (hidden w)) (treeAt (suc l) s x))
+wipe-slot {n} {s} l x k w a sd h q fw = at-slot n l (wiped n l) x w a fw k q s sd h
+
 -- a seat filled with a value, and a seat cleared
 module _ {n : ℕ} {s : St} (sd : Sound n s) (t : ℕ) (h : t < 8) where
   pub wipe-fill : (w : ℕ) → isFinite w ≡ true → Turned n 2 t s (wipeM 3 (2 ∷ 2 ∷ []) n w true t s) (fill 3 (2 ∷ 2 ∷ []) w)
