@@ -9,7 +9,7 @@ use borrow.Author.Tests.{lt-ltb}
 use Rattle.floats.specs.Value.{isFinite, negative, far}
 use Rattle.floats.proofs.Words.{on-case}
 use Rattle.floats.proofs.Finite.{finite-far, finite-farWith, finite-least, finite-most}
-use Rattle.grid.specs.Node.{branch, tile, hidden, onSlot, slot-ind, Node, SlotOf, changed}
+use Rattle.grid.specs.Node.{branch, tile, hidden, onSlot, slot-ind, Node, SlotOf, size, changed}
 use Rattle.grid.specs.Whole.{clear}
 use Rattle.grid.specs.Combine.{joined, staysWith, taken, underB, underA, joinedVoxels, combineS}
 use Rattle.nodes.specs.State.{St, Sound, flat}
@@ -25,7 +25,7 @@ use Rattle.trees.specs.declared.plan.Join.the-variants.{Union, Intersect}
 use Rattle.trees.specs.declared.plan.Plan.{Plan}
 use Rattle.trees.specs.declared.plan.Plan.the-variants.{Stay, Settle, Take, Go}
 use Rattle.means.specs.Level.{levels, span, treeAt, At, Turned}
-use Rattle.means.specs.Joined.{joinO, Joined}
+use Rattle.means.specs.Joined.{joinO, Joined, Combined}
 use Rattle.means.proofs.Levels.{leaf-ends, at-link, at-down, at-leaf-finite}
 use Rattle.means.proofs.Slots.{tree-leaf, tree-branch, tree-flat}
 use Rattle.means.proofs.Turned.{idle, ruled, others}
@@ -222,3 +222,43 @@ module _ (n : ℕ) (j : Join) where
   done zero = λ s x y sd hx hy ne. joined-each zero x y (joinS j x y) (combineS (joinO j) []) (leaf-slot x y ne) s sd hx hy ne
   done (suc l) = λ s x y sd hx hy ne.
       joined-each (suc l) x y (combineAt (branching l) (below l) j n (combineM (branching l) (below l) j n) x y) (combineS (joinO j) (levels l)) (at-slot l (done l) x y ne) s sd hx hy ne
+
+module _ {n : ℕ} {s : St} (j : Join) where
+  module _ (l x y : ℕ) (sd : Sound n s) where
+    pub combine-joined : At n s l x → At n s l y → x ≢ y
+        → Joined n l x y (span l) s (combineM (branching l) (below l) j n x y s) (λ i. combineS (joinO j) (below l) (treeAt l s x i) (treeAt l s y i))
+    combine-joined = done n j l s x y sd
+
+    -- the first m slots
+    pub combine-upto : At n s (suc l) x → At n s (suc l) y → x ≢ y → (m : ℕ) → m ≤ span (suc l)
+        → Joined n (suc l) x y m s (eachS (combineAt (branching l) (below l) j n (combineM (branching l) (below l) j n) x y) m s)
+        (upto (span (suc l)) (λ k a. combineS (joinO j) (levels l) a (treeAt (suc l) s y k)) (treeAt (suc l) s x) m)
+    combine-upto hx hy ne = joined-upto (suc l) x y (combineAt (branching l) (below l) j n (combineM (branching l) (below l) j n) x y) (combineS (joinO j) (levels l))
+        (at-slot n j l (done n j l) x y ne) s sd hx hy ne
+
+  -- of two leaves
+  pub combine-leaf-upto : (x y : ℕ) → Sound n s → At n s zero x → At n s zero y → x ≢ y → (m : ℕ) → m ≤ span zero
+      → Joined n zero x y m s (eachS (joinS j x y) m s) (upto (span zero) (λ k a. combineS (joinO j) [] a (treeAt zero s y k)) (treeAt zero s x) m)
+  combine-leaf-upto x y sd hx hy ne = joined-upto zero x y (joinS j x y) (combineS (joinO j) []) (leaf-slot n j x y ne) s sd hx hy ne
+
+-- ---- two seats, and the second cleared
+module _ {n : ℕ} {s : St} (sd : Sound n s) (a b : ℕ) (ha : a < 8) (hb : b < 8) (ne : a ≢ b) (j : Join) where
+  abbrev combined : Node (levels 2)
+  combined i = combineS (joinO j) (2 ∷ 2 ∷ []) (treeAt 2 s a i) (treeAt 2 s b i)
+
+  pub combine-seats : Joined n 2 a b 512 s (combineM 3 (2 ∷ 2 ∷ []) j n a b s) combined
+  unfolding size
+  combine-seats = combine-joined j 2 a b sd (ha, refl) (hb, refl) ne
+
+  pub combined-seats : Combined n a b s (wipeM 3 (2 ∷ 2 ∷ []) n far false b (combineM 3 (2 ∷ 2 ∷ []) j n a b s)) combined
+  combined-seats =
+      let p : Joined n 2 a b 512 s (combineM 3 (2 ∷ 2 ∷ []) j n a b s) combined = combine-seats in
+      let w : Turned n 2 b (combineM 3 (2 ∷ 2 ∷ []) j n a b s) (wipeM 3 (2 ∷ 2 ∷ []) n far false b (combineM 3 (2 ∷ 2 ∷ []) j n a b s)) (clear 3 (2 ∷ 2 ∷ [])) =
+      wipe-clear (p .sound) b hb in
+      record {
+        sound = w .sound;
+        grid = sym (others (p .sound) b a hb ha ne w) ∙ p .grid;
+        cleared = w .grid;
+        others = λ t h na nb. joined-others sd (ha, refl) (hb, refl) p t (h, refl) na nb ∙ others (p .sound) b t hb h nb w;
+        marks = w .marks ∙ p .marks;
+      }

@@ -1,8 +1,10 @@
 -- The relation in which every change of two nodes of one level stands, of which one, y, is joined into the other, x. Assumes nothing.
 use mathlib.Core.Path.{_≡_}
-use mathlib.Core.Logic.{_⊎_}
+use mathlib.Core.List.{[], _∷_}
+use mathlib.Core.Logic.{_≢_, _⊎_}
 use Prim.Native.Nat.{ℕ, _+_, _<_, _≤_}
 use Rattle.grid.specs.Node.{Node}
+use Rattle.grid.specs.Whole.{clear}
 use Rattle.grid.specs.Combine.{Operation, union, intersect}
 use Rattle.nodes.specs.State.{St, Live, Sound}
 use Rattle.trees.specs.declared.plan.Join.{Join}
@@ -30,4 +32,12 @@ pub record Joined (n l x y m : ℕ) (s r : St) (g : Node (levels l)) : Type 0 wh
   pub rest : (j : ℕ) → m ≤ j → j < span l → treeAt l r y j ≡ treeAt l s y j
   pub keep : (z : ℕ) → Beyond n l s x y z → Kept s r z
   pub within : (z : ℕ) → Beyond n l s x y z → In l r x z ⊎ In l r y z → ⊥
+  pub marks : r .mark ≡ s .mark
+
+-- from s to r, seat a has become g, with what was in seat b, which is clear now; no other seat has changed
+pub record Combined (n a b : ℕ) (s r : St) (g : Node (levels 2)) : Type 0 where
+  pub sound : Sound n r
+  pub grid : treeAt 2 r a ≡ g
+  pub cleared : treeAt 2 r b ≡ clear 3 (2 ∷ 2 ∷ [])
+  pub others : (t : ℕ) → t < 8 → t ≢ a → t ≢ b → treeAt 2 s t ≡ treeAt 2 r t
   pub marks : r .mark ≡ s .mark
