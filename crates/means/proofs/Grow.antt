@@ -1,20 +1,18 @@
 -- A free cell hung below a slot that is no branch: the node has a branch more, to a constant node. Assumes nothing.
 use mathlib.Core.Path.{_≡_, refl, sym, ap, _∙_, subst, fun-ext}
 use mathlib.Core.Bool.{Bool, true, false, cond, false≢true}
-use mathlib.Core.Logic.{_≢_, inl, inr}
+use mathlib.Core.Logic.{_≢_, inl, inr, ⊎-elim}
 use Prim.Native.Nat.{ℕ, zero, suc, _+_, _-_, _%_, _<_, _≤_}
-use native.Mathlib.Decide.{ℕ-discrete}
 use native.Mathlib.Omega.{arith}
 use native.Mathlib.Nat.{mod-lt}
 use Rattle.floats.specs.Value.{isFinite}
 use Rattle.grid.specs.Node.{Slot, branch, tile, hidden, Node, changed}
-use Rattle.grid.proofs.Places.{changed-is}
 use Rattle.nodes.specs.State.{St, wide, linked, Live, Fork, Sound, flat, slotAt, tree}
 use Rattle.nodes.specs.Change.{next, attachS}
 use Rattle.means.specs.Level.{levels, span, treeAt, filled, At, In, Equal, Same, Outside, Turned}
 use Rattle.means.proofs.Levels.{wide-top, wide-cell, tag-of, span-pos, at-wide, at-inside, at-fork, at-live, kept-at}
-use Rattle.means.proofs.Slots.{slot-same, slot-branch, slot-flat}
-use Rattle.means.proofs.Frame.{tree-frame, in-frame, Under, under, own-apart}
+use Rattle.means.proofs.Slots.{slot-branch, slot-flat}
+use Rattle.means.proofs.Frame.{slot-tree, slot-in, Under, under, own-apart}
 use Rattle.means.proofs.Turned.{lift, over}
 use Rattle.means.proofs.Attach as attach
 
@@ -97,28 +95,13 @@ module _ {n : ℕ} {s : St} (sd : Sound n s) (l x k u : ℕ) (a : Bool) (h : At 
   beside : (j : ℕ) → j ≢ k → Equal s r x j
   beside j ne = attach.next-same sd x k u a hx hk fx off some fu x j (old x (at-live n s (suc l) x h)) ne
 
-  grown : treeAt (suc l) r x ≡ changed (span (suc l)) k (λ _. branch (filled l u a)) (treeAt (suc l) s x)
-  unfolding tree
-  grown = changed-is (span (suc l)) k (λ _. branch (filled l u a)) (treeAt (suc l) s x) (treeAt (suc l) r x)
-      (λ m e. subst (λ (j : ℕ). slotAt (treeAt l r) r x j ≡ branch (filled l u a)) (sym e) new)
-      (λ m ne.
-      sym (slot-same (beside (m % span (suc l)) ne) (treeAt l s) (treeAt l r)
-      (λ t. tree-frame l s r (8 + s .slot x (m % span (suc l))) (aside (m % span (suc l)) (mod-lt m (span-pos (suc l))) t))))
-    where
-      new : slotAt (treeAt l r) r x k ≡ branch (filled l u a)
-      new = slot-branch (treeAt l r) r x k (grow-here .1) ∙ ap branch (ap (λ (d : ℕ). treeAt l r (8 + d)) (grow-here .0) ∙ grow-tree)
+  new : slotAt (treeAt l r) r x k ≡ branch (filled l u a)
+  new = slot-branch (treeAt l r) r x k (grow-here .1) ∙ ap branch (ap (λ (d : ℕ). treeAt l r (8 + d)) (grow-here .0) ∙ grow-tree)
 
   none-in : (y : ℕ) → Outside n (suc l) s x y → In (suc l) r x y → ⊥
-  none-in y o (inl i) = o .out (inl i)
-  none-in y o (inr (j, p, t, i)) = go (ℕ-discrete j k)
-    where
-      go : Dec (j ≡ k) → ⊥
-      go (yes e) = old y (o .live) (alike-in r (8 + c) u a (attach.fresh sd x k u a hx hk fx off some fu) l span-new y
-          (subst (λ (d : ℕ). In l r (8 + d) y) (ap (r .slot x) e ∙ grow-here .0) i))
-      go (no ne) =
-          let b : Equal s r x j = beside j ne in
-          let t' : s .kid x j ≡ true = b .kid ∙ t in
-          o .out (inr (j, p, t', in-frame l s r (8 + s .slot x j) (aside j p t') y (subst (λ (d : ℕ). In l r (8 + d) y) (sym (b .slot)) i)))
+  none-in y o i = ⊎-elim (o .out)
+      (λ p. old y (o .live) (alike-in r (8 + c) u a (attach.fresh sd x k u a hx hk fx off some fu) l span-new y (subst (λ (d : ℕ). In l r (8 + d) y) (grow-here .0) (p .1))))
+      (slot-in l s r x k beside (λ j p _. aside j p) y i)
 
   pub grow-turned : Turned n (suc l) x s r (changed (span (suc l)) k (λ _. branch (filled l u a)) (treeAt (suc l) s x))
   unfolding attachS
@@ -126,7 +109,7 @@ module _ {n : ℕ} {s : St} (sd : Sound n s) (l x k u : ℕ) (a : Bool) (h : At 
       record {
         sound = grow-sound;
         at = kept-at n (suc l) x s r (tags x (at-live n s (suc l) x h)) h;
-        grid = grown;
+        grid = slot-tree l s r x k beside (λ j p _. aside j p) (branch (filled l u a)) new;
         keep = λ y o. record { slots = same y (o .live) (λ e. o .out (inl e)); tag = tags y (o .live) };
         within = none-in;
         marks = refl;

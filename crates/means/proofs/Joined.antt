@@ -2,8 +2,8 @@
 -- Assumes nothing.
 use mathlib.Core.Path.{_≡_, refl, sym, ap, _∙_, subst, fun-ext}
 use mathlib.Core.Bool.{true}
-use mathlib.Core.Logic.{_≢_, _⊎_, inl, inr, ⊎-elim}
-use Prim.Native.Nat.{ℕ, zero, suc, _+_, _%_, _<_, _≤_}
+use mathlib.Core.Logic.{_≢_, inl, inr, ⊎-elim}
+use Prim.Native.Nat.{ℕ, zero, suc, _+_, _<_, _≤_}
 use native.Mathlib.Omega.{arith}
 use native.Mathlib.Nat.{mod-eq-of-lt}
 use Rattle.grid.specs.Node.{branch, Node, SlotOf, changed}
@@ -17,7 +17,7 @@ use Rattle.means.proofs.Levels.{span-pos, at-inside, at-live, kept-live
 use Rattle.means.proofs.Slots.{slot-branch, tree-round, changed-like}
 use Rattle.means.proofs.Frame.{in-own, tree-frame, slot-tree, slot-in, Under, under, level-apart, branch-apart, node-apart, in-there}
 use Rattle.means.proofs.Turned.{kept-then, stay, Apart, apart-at, apart-tree, apart-in, nodes-apart}
-use Rattle.means.proofs.Each.{upto, upto-none, upto-more, upto-left, upto-all}
+use Rattle.means.proofs.Each.{upto, upto-none, upto-more, upto-all}
 
 -- ---- of a node of which slot k alone has changed, the slots past k are as they were
 pub past-slot : {A : Type 0} (m k : ℕ) (f : A → A) (t t' : ℕ → A) → t' ≡ changed m k f t → (j : ℕ) → suc k ≤ j → j < m → t' j ≡ t j
@@ -130,7 +130,7 @@ module _ {n : ℕ} {s : St} (sd : Sound n s) (l x y k : ℕ) (hx : At n s (suc l
 -- ---- every slot: where the step at slot k joins slot k of y into that of x by the rule f, the steps at the first m slots join those
 module _ {n : ℕ} (l x y : ℕ) (step : ℕ → St → St) (f : SlotOf (below l) → SlotOf (below l) → SlotOf (below l))
     (ok : (k : ℕ) → k < span l → (s : St) → Sound n s → At n s l x → At n s l y
-      → Joined n l x y (suc k) s (step k s) (changed (span l) k (λ a. f a (treeAt l s y k)) (treeAt l s x)))
+    → Joined n l x y (suc k) s (step k s) (changed (span l) k (λ a. f a (treeAt l s y k)) (treeAt l s x)))
     (s : St) (sd : Sound n s) (hx : At n s l x) (hy : At n s l y) (ne : x ≢ y) where
   abbrev rule : ℕ → SlotOf (below l) → SlotOf (below l)
   rule k a = f a (treeAt l s y k)

@@ -1,19 +1,16 @@
 -- A cell released that has nothing below it: the slot of the node is hidden with +far. Assumes nothing.
-use mathlib.Core.Path.{_≡_, refl, sym, ap, _∙_, subst}
+use mathlib.Core.Path.{_≡_, refl, sym, _∙_, subst}
 use mathlib.Core.Bool.{true, false, false≢true}
-use mathlib.Core.Logic.{_≢_, inl, inr}
-use Prim.Native.Nat.{ℕ, suc, _+_, _-_, _%_, _<_, _≤_}
+use mathlib.Core.Logic.{_≢_, inl, inr, ⊎-elim}
+use Prim.Native.Nat.{ℕ, suc, _+_, _-_, _<_, _≤_}
 use native.Mathlib.Omega.{arith}
-use native.Mathlib.Nat.{mod-lt}
 use Rattle.floats.specs.Value.{far}
 use Rattle.grid.specs.Node.{hidden, changed}
-use Rattle.grid.proofs.Places.{changed-is}
-use Rattle.nodes.specs.State.{St, wide, Fork, Sound, slotAt, tree}
+use Rattle.nodes.specs.State.{St, wide, Fork, Sound}
 use Rattle.nodes.specs.Change.{releaseS}
 use Rattle.means.specs.Level.{span, treeAt, At, In, Equal, Same, Outside, Turned}
-use Rattle.means.proofs.Levels.{span-pos, at-wide, at-inside, at-fork, kept-at}
-use Rattle.means.proofs.Slots.{slot-same}
-use Rattle.means.proofs.Frame.{in-own, tree-frame, in-frame, own-apart}
+use Rattle.means.proofs.Levels.{at-wide, at-inside, at-fork, kept-at}
+use Rattle.means.proofs.Frame.{in-own, slot-tree, slot-in, own-apart}
 use Rattle.means.proofs.Release as release
 
 module _ {n : ℕ} {s : St} (sd : Sound n s) (l x k : ℕ) (h : At n s (suc l) x) (q : k < span (suc l)) (on : s .kid x k ≡ true)
@@ -53,20 +50,8 @@ module _ {n : ℕ} {s : St} (sd : Sound n s) (l x k : ℕ) (h : At n s (suc l) x
   aside : (j : ℕ) → j < span (suc l) → s .kid x j ≡ true → (y : ℕ) → In l s (8 + s .slot x j) y → Same s r y
   aside j p t y i = same y (own-apart sd l x j h p t y i)
 
-  pruned : treeAt (suc l) r x ≡ changed (span (suc l)) k (λ _. hidden far) (treeAt (suc l) s x)
-  unfolding tree
-  pruned = changed-is (span (suc l)) k (λ _. hidden far) (treeAt (suc l) s x) (treeAt (suc l) r x)
-      (λ m e. subst (λ (j : ℕ). slotAt (treeAt l r) r x j ≡ hidden far) (sym e) (rw (here .1, here .2, here .0) refl))
-      (λ m ne.
-      sym (slot-same (beside (m % span (suc l)) ne) (treeAt l s) (treeAt l r)
-      (λ t. tree-frame l s r (8 + s .slot x (m % span (suc l))) (aside (m % span (suc l)) (mod-lt m (span-pos (suc l))) t))))
-
   none-in : (y : ℕ) → Outside n (suc l) s x y → In (suc l) r x y → ⊥
-  none-in y o (inl i) = o .out (inl i)
-  none-in y o (inr (j, p, t, i)) =
-      let b : Equal s r x j = beside j (λ e. false≢true (sym (here .1) ∙ ap (r .kid x) (sym e) ∙ t)) in
-      let t' : s .kid x j ≡ true = b .kid ∙ t in
-      o .out (inr (j, p, t', in-frame l s r (8 + s .slot x j) (aside j p t') y (subst (λ (d : ℕ). In l r (8 + d) y) (sym (b .slot)) i)))
+  none-in y o i = ⊎-elim (o .out) (λ p. false≢true (sym (here .1) ∙ p .0)) (slot-in l s r x k beside (λ j p _. aside j p) y i)
 
   pub prune-turned : Turned n (suc l) x s r (changed (span (suc l)) k (λ _. hidden far) (treeAt (suc l) s x))
   unfolding releaseS
@@ -74,7 +59,7 @@ module _ {n : ℕ} {s : St} (sd : Sound n s) (l x k : ℕ) (h : At n s (suc l) x
       record {
         sound = release.release-sound sd x k hx hk fx on bare;
         at = kept-at n (suc l) x s r (tags x (λ e. own-apart sd l x k h q on (8 + c) (in-own l s (8 + c)) (sym e))) h;
-        grid = pruned;
+        grid = slot-tree l s r x k beside (λ j p _. aside j p) (hidden far) (rw (here .1, here .2, here .0) refl);
         keep = λ y o.
             record {
               slots = same y (λ e. o .out (inl e));

@@ -1,23 +1,22 @@
 -- A slot that is no branch: a value put in it, hidden, or its word changed. Assumes nothing.
 use mathlib.Core.Path.{_≡_, refl, sym, ap, ap₂, _∙_, subst, fun-ext}
 use mathlib.Core.Bool.{Bool, true, false, cond, _&&_, false≢true}
-use mathlib.Core.Logic.{_≢_, _⊎_, inl, inr}
+use mathlib.Core.Logic.{_≢_, _⊎_, inl, inr, ⊎-elim}
 use Prim.Native.Nat.{ℕ, zero, suc, _+_, _%_, _<_}
 use native.Mathlib.Decide.{ℕ-discrete}
-use native.Mathlib.Nat.{mod-lt}
 use lib.Dec.{eqb}
 use borrow.Author.Tests.{eq-eqb, ne-eqb, lt-ltb}
 use Rattle.floats.specs.Value.{isFinite}
 use Rattle.grid.specs.Node.{Slot, tile, hidden, changed}
 use Rattle.grid.proofs.Places.{changed-is}
-use Rattle.nodes.specs.State.{St, wide, Live, Fork, Free, Held, Link, Sound, flat, slotAt, tree}
+use Rattle.nodes.specs.State.{St, wide, Live, Fork, Free, Held, Link, Sound, flat, tree}
 use Rattle.nodes.specs.Change.{at1, at2, inCell, putS, hideS}
 use Rattle.nodes.specs.Steps.{slotS}
 use Rattle.trees.specs.Slot.{wordS}
 use Rattle.means.specs.Level.{span, treeAt, At, In, Equal, Same, Turned}
-use Rattle.means.proofs.Levels.{span-pos, at-fork, kept-at}
-use Rattle.means.proofs.Slots.{flat-same, slot-same, slot-flat}
-use Rattle.means.proofs.Frame.{in-own, tree-frame, in-frame, own-apart}
+use Rattle.means.proofs.Levels.{at-fork, kept-at}
+use Rattle.means.proofs.Slots.{flat-same, slot-flat}
+use Rattle.means.proofs.Frame.{in-own, slot-tree, slot-in, own-apart}
 
 -- ---- what the changes of functions leave
 pub at1-here : {A : Type 0} (f : ℕ → A) (i : ℕ) (a : A) → at1 f i a i ≡ a
@@ -146,18 +145,12 @@ module _ {n : ℕ} {s : St} (sd : Sound n s) (l x k w : ℕ) (b a : Bool) (h : A
   set-tree zero at = changed-is (span zero) k (λ _. cond a (tile w) (hidden w)) (treeAt zero s x) (treeAt zero r x)
       (λ j e. ap (flat r x) e ∙ flat-here)
       (λ j ne. sym (flat-same (next-same x (j % span zero) ne)))
-  set-tree (suc m) at = changed-is (span (suc m)) k (λ _. cond a (tile w) (hidden w)) (treeAt (suc m) s x) (treeAt (suc m) r x)
-      (λ j e. ap (slotAt (treeAt m r) r x) e ∙ slot-flat (treeAt m r) r x k (is x k refl refl (at-fork n s m x at)) ∙ flat-here)
-      (λ j ne. sym (slot-same (next-same x (j % span (suc m)) ne) (treeAt m s) (treeAt m r)
-      (λ t. tree-frame m s r (8 + s .slot x (j % span (suc m))) (aside m at (j % span (suc m)) (mod-lt j (span-pos (suc m))) t))))
+  set-tree (suc m) at = slot-tree m s r x k (next-same x) (λ j q _. aside m at j q) (cond a (tile w) (hidden w))
+      (slot-flat (treeAt m r) r x k (is x k refl refl (at-fork n s m x at)) ∙ flat-here)
 
   set-in : (m : ℕ) → At n s m x → (y : ℕ) → In m r x y → In m s x y
   set-in zero at y i = i
-  set-in (suc m) at y (inl i) = inl i
-  set-in (suc m) at y (inr (j, q, t, i)) =
-      let e : Equal s r x j = next-same x j (λ p. false≢true (sym (is x j refl p (at-fork n s m x at)) ∙ t)) in
-      let t' : s .kid x j ≡ true = e .kid ∙ t in
-      inr (j, q, t', in-frame m s r (8 + s .slot x j) (aside m at j q t') y (subst (λ (c : ℕ). In m r (8 + c) y) (sym (e .slot)) i))
+  set-in (suc m) at y i = ⊎-elim (λ i'. i') (λ p. absurd (false≢true (sym (is x k refl refl (at-fork n s m x at)) ∙ p .0))) (slot-in m s r x k (next-same x) (λ j q _. aside m at j q) y i)
 
   pub set-turned : Turned n l x s r (changed (span l) k (λ _. cond a (tile w) (hidden w)) (treeAt l s x))
   unfolding slotS

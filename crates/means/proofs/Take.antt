@@ -8,14 +8,14 @@ use native.Mathlib.Decide.{ℕ-discrete}
 use native.Mathlib.Omega.{arith}
 use Rattle.floats.specs.Value.{isFinite, far}
 use Rattle.floats.proofs.Finite.{finite-far}
-use Rattle.grid.specs.Node.{branch, hidden, changed}
+use Rattle.grid.specs.Node.{branch, changed}
 use Rattle.nodes.specs.State.{St, wide, linked, Live, Fork, Free, Held, Stacked, Link, Sound, slotAt}
 use Rattle.nodes.specs.Change.{at2}
 use Rattle.trees.specs.Combine.{takeChildS}
-use Rattle.means.specs.Level.{levels, span, treeAt, At, In, Equal, Same}
+use Rattle.means.specs.Level.{span, treeAt, At, In, Equal, Same}
 use Rattle.means.specs.Joined.{Beyond, Joined}
 use Rattle.means.proofs.Levels.{wide-top, wide-most, at-wide, at-inside, at-fork, at-link, kept-at}
-use Rattle.means.proofs.Slots.{slot-branch, slot-flat}
+use Rattle.means.proofs.Slots.{slot-branch}
 use Rattle.means.proofs.Frame.{in-own, tree-frame, in-frame, slot-tree, slot-in, level-apart}
 use Rattle.means.proofs.Put.{at1-here, at1-else, at2-here, at2-else, at2-next}
 use Rattle.means.proofs.Joined.{past-slot}
@@ -112,9 +112,10 @@ module _ {n : ℕ} {s : St} (sd : Sound n s) (l x y k : ℕ) (hx : At n s (suc l
       go : Dec (d ≡ c) → Alike (s .tag d) (r .tag d) × Alike (r .tag d) (s .tag d)
       go (yes e) =
           let a : s .tag d ≡ linked y k = ap (s .tag) e ∙ own .tagged in
-          let b : r .tag d ≡ linked x k = ap (r .tag) e ∙ tag-new in
-          (subst (λ (t : ℕ). Alike t (r .tag d)) (sym a) (subst (Alike (linked y k)) (sym b) (linked-like n s l y x k hy hx q)),
-          subst (λ (t : ℕ). Alike t (s .tag d)) (sym b) (subst (Alike (linked x k)) (sym a) (linked-like n s l x y k hx hy q)))
+          let b : r .tag d ≡ linked x k = ap (r .tag) e ∙ tag-new in (
+            subst (λ (t : ℕ). Alike t (r .tag d)) (sym a) (subst (Alike (linked y k)) (sym b) (linked-like n s l y x k hy hx q)),
+            subst (λ (t : ℕ). Alike t (s .tag d)) (sym b) (subst (Alike (linked x k)) (sym a) (linked-like n s l x y k hx hy q)),
+          )
       go (no ne) = (subst (Alike (s .tag d)) (sym (tag-else d ne)) (λ h. h, λ h. h), subst (Alike (r .tag d)) (tag-else d ne) (λ h. h, λ h. h))
 
   live-back : (z : ℕ) → Live r z → Live s z

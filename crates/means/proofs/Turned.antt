@@ -1,17 +1,14 @@
 -- The laws of a node turned into another: nothing done, one after another, below a branch, and what another top sees. Assumes nothing.
 use mathlib.Core.Path.{_≡_, refl, sym, ap, _∙_, subst}
 use mathlib.Core.Bool.{true}
-use mathlib.Core.Logic.{_≢_, inl, inr, ⊎-elim}
-use Prim.Native.Nat.{ℕ, suc, _+_, _-_, _%_, _<_}
-use native.Mathlib.Decide.{ℕ-discrete}
-use native.Mathlib.Nat.{mod-lt}
+use mathlib.Core.Logic.{_≢_, inr, ⊎-elim}
+use Prim.Native.Nat.{ℕ, suc, _+_, _<_}
 use Rattle.grid.specs.Node.{branch, Node, SlotOf, changed}
-use Rattle.grid.proofs.Places.{changed-is}
-use Rattle.nodes.specs.State.{St, Live, Sound, slotAt, tree}
+use Rattle.nodes.specs.State.{St, Live, Sound}
 use Rattle.nodes.specs.Walk.{branching, below}
 use Rattle.means.specs.Level.{levels, span, treeAt, At, In, Same, Kept, Outside, Turned}
-use Rattle.means.proofs.Levels.{span-pos, at-inside, at-live, kept-live, kept-at}
-use Rattle.means.proofs.Slots.{slot-same, slot-branch, tree-round, changed-twice, changed-like, changed-none}
+use Rattle.means.proofs.Levels.{at-inside, at-live, kept-live, kept-at}
+use Rattle.means.proofs.Slots.{slot-branch, tree-round, changed-twice, changed-like, changed-none}
 use Rattle.means.proofs.Frame.{in-own, tree-frame, in-frame, Under, under, own-apart, branch-apart, node-apart, in-there, slot-tree, slot-in}
 
 -- ---- what is kept
