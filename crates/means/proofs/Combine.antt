@@ -9,7 +9,7 @@ use borrow.Author.Tests.{lt-ltb}
 use Rattle.floats.specs.Value.{isFinite, negative, far}
 use Rattle.floats.proofs.Words.{on-case}
 use Rattle.floats.proofs.Finite.{finite-far, finite-farWith, finite-least, finite-most}
-use Rattle.grid.specs.Node.{branch, tile, hidden, onSlot, slot-ind, Node, SlotOf, size, changed}
+use Rattle.grid.specs.Node.{branch, tile, hidden, onSlot, slot-ind, Node, SlotOf, changed}
 use Rattle.grid.specs.Whole.{clear}
 use Rattle.grid.specs.Combine.{joined, staysWith, taken, underB, underA, joinedVoxels, combineS}
 use Rattle.nodes.specs.State.{St, Sound, flat}
@@ -246,13 +246,12 @@ module _ {n : ℕ} {s : St} (sd : Sound n s) (a b : ℕ) (ha : a < 8) (hb : b < 
   abbrev combined : Node (levels 2)
   combined i = combineS (joinO j) (2 ∷ 2 ∷ []) (treeAt 2 s a i) (treeAt 2 s b i)
 
-  pub combine-seats : Joined n 2 a b 512 s (combineM 3 (2 ∷ 2 ∷ []) j n a b s) combined
-  unfolding size
+  pub combine-seats : Joined n 2 a b (span 2) s (combineM 3 (2 ∷ 2 ∷ []) j n a b s) combined
   combine-seats = combine-joined j 2 a b sd (ha, refl) (hb, refl) ne
 
   pub combined-seats : Combined n a b s (wipeM 3 (2 ∷ 2 ∷ []) n far false b (combineM 3 (2 ∷ 2 ∷ []) j n a b s)) combined
   combined-seats =
-      let p : Joined n 2 a b 512 s (combineM 3 (2 ∷ 2 ∷ []) j n a b s) combined = combine-seats in
+      let p : Joined n 2 a b (span 2) s (combineM 3 (2 ∷ 2 ∷ []) j n a b s) combined = combine-seats in
       let w : Turned n 2 b (combineM 3 (2 ∷ 2 ∷ []) j n a b s) (wipeM 3 (2 ∷ 2 ∷ []) n far false b (combineM 3 (2 ∷ 2 ∷ []) j n a b s)) (clear 3 (2 ∷ 2 ∷ [])) =
       wipe-clear (p .sound) b hb in
       record {
