@@ -1008,6 +1008,16 @@ static void run_largest(bool first) {
     work(6);
 }
 
+/* Now and then the point moves into the last slot of its middle node, or of its leaf too, or into the first: these give a branch its signs. */
+static uint32_t near_corner(uint32_t point) {
+    switch (below(8)) {
+    case 0: return point | (LEAF ^ TOP);
+    case 1: return point | (ALL ^ TOP);
+    case 2: return point & ~(uint32_t)(LEAF ^ TOP);
+    default: return point;
+    }
+}
+
 static void run_episode(void) {
     state = seed * 0x100000001b3u ^ episode << 20;
     bool first = below(2);
@@ -1016,7 +1026,7 @@ static void run_episode(void) {
     watched = false;
     hot_seat = below(8);
     for (int i = 0; i < 4; i++)
-        hot_point[i] = i > 0 && below(2) ? hot_point[0] ^ below(32) << 7 * below(3) : any32() & ALL;
+        hot_point[i] = i > 0 && below(2) ? hot_point[0] ^ below(32) << 7 * below(3) : near_corner(any32() & ALL);
     if (episode % 16384 == 7 || episode % 16384 == 8) {
         run_largest(first);
         return;
