@@ -24,11 +24,15 @@ const EDGES: [i32; 12] = [0, 1, 3, 4, 15, 16, 31, 63, 64, 111, 112, 127];
 
 pub const ALL_SEATS: &[u32] = &[0, 1, 2, 3, 4, 5, 6, 7];
 
+/// Coordinates in the first and last voxels of the last leaf of a middle node, which gives its signs to those behind it.
+const CORNERS: [i32; 10] = [0, 12, 15, 16, 28, 31, 76, 79, 124, 127];
+
 /// Where the points of a run lie.
 #[derive(Clone, Copy)]
 pub enum Spread {
     Near,
     Edges,
+    Corners,
     Wide,
 }
 
@@ -557,6 +561,7 @@ impl<T: Grid> Run<'_, T> {
         let low = match spread {
             Spread::Near => self.dice.below(6) as i32,
             Spread::Edges => self.dice.pick(&EDGES),
+            Spread::Corners => self.dice.pick(&CORNERS),
             Spread::Wide => self.dice.below(128) as i32,
         };
         let high = self.dice.next() as i32;

@@ -12,7 +12,7 @@ const SEATS_PLAN: Plan = Plan {
     kind: Steps::OnSeats,
     values: NO_ZEROS,
     tiles: false,
-    steps: 45_000,
+    steps: 0,
     phase: 1500,
     look: 250,
     seed: 0,
@@ -21,7 +21,7 @@ const SEATS_PLAN: Plan = Plan {
 /// Plans that differ in where their points lie, in how many seats they name, and in whether seats start full.
 fn plans(cells: usize, steps: usize) -> Vec<Plan> {
     let mut plans = Vec::new();
-    for spread in [Spread::Near, Spread::Edges, Spread::Wide] {
+    for spread in [Spread::Near, Spread::Edges, Spread::Corners, Spread::Wide] {
         for (seats, tiles) in [(ALL_SEATS, false), (&[2, 5, 6][..], false), (ALL_SEATS, true)] {
             let seed = 1000 * cells as u64 + 100 * plans.len() as u64;
             plans.push(Plan { cells, steps, spread, seats, tiles, seed, ..SEATS_PLAN });
@@ -43,19 +43,19 @@ fn shown(cells: usize, steps: usize) {
 
 #[test]
 fn seats_that_share_few_cells() {
-    [1, 2, 3, 4, 5, 9].into_iter().for_each(|cells| shown(cells, 45_000));
+    [1, 2, 3, 4, 5, 9].into_iter().for_each(|cells| shown(cells, 34_000));
 }
 
 #[test]
 fn seats_that_share_some_cells() {
-    [17, 33, 65, 100].into_iter().for_each(|cells| shown(cells, 45_000));
+    [17, 33, 65, 100].into_iter().for_each(|cells| shown(cells, 34_000));
 }
 
 #[test]
 fn seats_that_share_many_cells() {
-    shown(300, 20_000);
-    shown(2000, 6000);
-    shown(65_535, 600);
+    shown(300, 15_000);
+    shown(2000, 4500);
+    shown(65_535, 450);
 }
 
 /// Signed distance, in voxels: negative inside.
