@@ -218,11 +218,16 @@ static uint32_t slot_of(uint32_t point, uint32_t shift, uint32_t bits) {
 
 static uint32_t slot_at(uint32_t point, uint32_t level) { return level == 2 ? slot_of(point, 4, 3) : slot_of(point, 2 * level, 2); }
 
-static uint32_t word_at(view m, uint32_t node, uint32_t k) { return m.slots[(node < 8 ? 512 * (size_t)node : 4096 + 64 * (size_t)(node - 8)) + k]; }
+static uint32_t wide(uint32_t level) { return level == 2 ? 512 : 64; }
+
+/* The place of a node's slot 0 among the words, and among the bits of either mask. */
+static size_t place_of(uint32_t node) { return node < 8 ? 512 * (size_t)node : 4096 + 64 * (size_t)(node - 8); }
+
+static uint32_t word_at(view m, uint32_t node, uint32_t k) { return m.slots[place_of(node) + k]; }
 
 static bool bit_at(view m, bool active, uint32_t node, uint32_t k) {
-    size_t word = (active ? 64 + (size_t)cells : 0) + (node < 8 ? 8 * node + k / 64 : 64 + (node - 8));
-    return m.masks[word] >> (63 - k % 64) & 1;
+    size_t place = place_of(node) + k;
+    return m.masks[(active ? 64 + cells : 0) + place / 64] >> (63 - place % 64) & 1;
 }
 
 static end walk(view m, uint32_t seat, uint32_t point) {
@@ -275,7 +280,7 @@ static bool hold(view m, uint32_t cell, uint32_t use) {
 }
 
 static bool sound_node(view m, uint32_t node, uint32_t level) {
-    for (uint32_t k = 0; k < (level == 2 ? 512u : 64u); k++) {
+    for (uint32_t k = 0; k < wide(level); k++) {
         uint32_t word = word_at(m, node, k);
         if (level == 0 || !bit_at(m, false, node, k)) {
             if (!finite_word(word))
@@ -306,7 +311,7 @@ static bool sound(view m) {
 
 /* What the calls on whole seats read of a sound pool. */
 static bool empty_node(view m, uint32_t node, uint32_t level) {
-    for (uint32_t k = 0; k < (level == 2 ? 512u : 64u); k++)
+    for (uint32_t k = 0; k < wide(level); k++)
         if ((level > 0 && bit_at(m, false, node, k)) || bit_at(m, true, node, k))
             return false;
     return true;
@@ -314,14 +319,14 @@ static bool empty_node(view m, uint32_t node, uint32_t level) {
 
 static uint32_t cells_below(view m, uint32_t node, uint32_t level) {
     uint32_t sum = 0;
-    for (uint32_t k = 0; level > 0 && k < (level == 2 ? 512u : 64u); k++)
+    for (uint32_t k = 0; level > 0 && k < wide(level); k++)
         if (bit_at(m, false, node, k))
             sum += 1 + cells_below(m, 8 + word_at(m, node, k), level - 1);
     return sum;
 }
 
 static bool empty_branch_below(view m, uint32_t node, uint32_t level) {
-    for (uint32_t k = 0; level > 0 && k < (level == 2 ? 512u : 64u); k++) {
+    for (uint32_t k = 0; level > 0 && k < wide(level); k++) {
         uint32_t child = 8 + word_at(m, node, k);
         if (bit_at(m, false, node, k) && (empty_node(m, child, level - 1) || empty_branch_below(m, child, level - 1)))
             return true;
@@ -353,16 +358,14 @@ typedef struct {
     uint32_t node;
 } source;
 
-static size_t place_of(uint32_t cell) { return 4096 + 64 * (size_t)cell; }
-
-/* The sign of a slot, of a branch that of its slot 0; and of what it hands on: of a branch, its last slot's. */
+/* The sign of a slot, of a branch that of its slot 0. And the sign that it hands on: of a branch, that of its last slot. */
 static uint32_t sign_in(const picture *p, size_t place) {
     while (p->kind[place] == BRANCH)
-        place = place_of(p->word[place]);
+        place = place_of(8 + p->word[place]);
     return p->word[place] & MINUS;
 }
 
-static uint32_t sign_behind(const picture *p, size_t place) { return sign_in(p, p->kind[place] == BRANCH ? place_of(p->word[place]) + 63 : place); }
+static uint32_t sign_behind(const picture *p, size_t place) { return sign_in(p, p->kind[place] == BRANCH ? place_of(8 + p->word[place]) + 63 : place); }
 
 /* The sign that comes to slot k of a node: that of the nearest slot before it that is not hidden, in its own row, or else along the row of row starts (x, y, 0), or
    else along (x, 0, 0), or else of the first slot that is not hidden. */
@@ -388,7 +391,7 @@ static void draw_signs(picture *p, size_t node, uint32_t side) {
 
 static bool nothing_drawn(const picture *p, uint32_t cell) {
     for (uint32_t k = 0; k < 64; k++)
-        if (p->kind[place_of(cell) + k] != HIDDEN)
+        if (p->kind[place_of(8 + cell) + k] != HIDDEN)
             return false;
     return true;
 }
@@ -432,7 +435,7 @@ static slot draw_slot(picture *p, view m, slot s, uint32_t level, const call *c,
     if (s.kind != BRANCH)
         return value_after(c, s, path && level == 0);
     uint32_t cell = p->used++;
-    draw_node(p, place_of(cell), m, below, level - 1, c, path);
+    draw_node(p, place_of(8 + cell), m, below, level - 1, c, path);
     if (!releases(c, path) || !nothing_drawn(p, cell))
         return (slot){BRANCH, cell};
     p->used--;
@@ -477,7 +480,7 @@ static void draw(picture *p, view m, const call *c) {
 }
 
 static bool same_picture(const picture *p, const picture *q) {
-    size_t size = place_of(p->used);
+    size_t size = place_of(8 + p->used);
     return p->used == q->used && memcmp(p->marks, q->marks, sizeof p->marks) == 0 && memcmp(p->kind, q->kind, size * sizeof *p->kind) == 0 &&
            memcmp(p->word, q->word, size * sizeof *p->word) == 0;
 }
@@ -922,30 +925,30 @@ static void lend_right(uint32_t n, bool first) { lend_counts(4096 + 64 * (size_t
 
 /* A node of slots with any finite value, all, some or none of them active, and none a branch. */
 static void paint(uint32_t node) {
-    size_t place = node < 8 ? 512 * (size_t)node : place_of(node - 8);
-    uint32_t wide = node < 8 ? 512 : 64, style = below(8);
-    for (uint32_t k = 0; k < wide; k++) {
+    size_t first = place_of(node), past = place_of(node + 1);
+    uint32_t style = below(8);
+    for (size_t i = first; i < past; i++) {
         uint32_t w = value_word();
-        slots()[place + k] = finite_word(w) ? w : FAR;
+        slots()[i] = finite_word(w) ? w : FAR;
     }
-    for (size_t i = place / 64; i < (place + wide) / 64; i++) {
+    for (size_t i = first / 64; i < past / 64; i++) {
         masks()[i] = 0;
         masks()[64 + cells + i] = style < 3 ? 0 : style == 3 ? UINT64_MAX : style == 4 ? any() | any() | any() : any() & any() & any();
     }
 }
 
 /* A free cell, freshly painted, becomes the branch of a slot. The child word of a leaf holds anything, since no call reads it. */
-static uint32_t hang(uint32_t node, uint32_t k, uint32_t level) {
+static void hang(uint32_t node, uint32_t k, uint32_t level) {
     uint32_t cell = book()[9 + cells + --book()[8]];
-    size_t bit = (node < 8 ? 512 * (size_t)node : place_of(node - 8)) + k, active = 64 * (64 + (size_t)cells) + bit;
-    slots()[bit] = cell;
-    masks()[bit / 64] |= (uint64_t)1 << (63 - bit % 64);
-    masks()[active / 64] &= ~((uint64_t)1 << (63 - active % 64));
+    size_t place = place_of(node) + k;
+    uint64_t bit = (uint64_t)1 << (63 - place % 64);
+    slots()[place] = cell;
+    masks()[place / 64] |= bit;
+    masks()[64 + cells + place / 64] &= ~bit;
     book()[9 + cell] = 65536 + 512 * node + k;
     paint(8 + cell);
     if (level == 1)
         masks()[64 + cell] = any();
-    return 8 + cell;
 }
 
 /* A middle node or a leaf on the way to a point, if there is none. */
