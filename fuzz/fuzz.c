@@ -713,10 +713,10 @@ static result foretold(const call *c) {
     }
 }
 
-/* After an accepted call that writes, a pool that was sound is sound, and stands for what the call makes of it. */
+/* After an accepted call that writes, a pool that was sound is sound, and stands for what the call makes of it. Only calls on a voxel are accepted on another. */
 static void check_effect(const call *c) {
     static picture owed, is;
-    if (c->kind != PREPARE && !sound(before()))
+    if (on_voxel(c->kind) && !sound(before()))
         return;
     kept_sound++;
     if (!sound(after()))
