@@ -25,9 +25,9 @@
        8   a copy onto a seat that is not empty
        9   fewer free cells than needed
 
-   SIGNS. A slot that is not active is hidden: no lookup shows its value, but it has one, and a sign. A seat is filled with signs from an accepted yoldrick_fill_signs on,
-   which gives every hidden slot a sign, until the next accepted call that changes the seat: only a flip keeps it filled. A seat that a copy writes is not filled. Signs are
-   asked for with yoldrick_sign.
+   SIGNS. A slot that is neither active nor a branch is hidden: no lookup shows its value, but it has one, and so a sign. An accepted yoldrick_fill_signs gives every hidden
+   slot its sign and fills the seat with signs; yoldrick_sign is answered then. The seat is filled until the next accepted insert, remove, fill, clear, prune or cut on it, or
+   prepare, even one that finds nothing to change. A flip leaves it filled, and a copy of it is not.
 
    COST. 'A walk' is at most three slots, whatever n is. 'The whole pool' is each cell and slot once: the test that it is sound.
 
