@@ -1,6 +1,6 @@
 -- What the calls for C answer: for each answer of document 01 its number and its value. Assumes nothing.
 use mathlib.Core.Bool.{Bool, cond}
-use mathlib.Core.Option.{Option, none, some}
+use mathlib.Core.Option.{none, some}
 use Prim.Native.Nat.{ℕ}
 use lib.IntN.{ℤ}
 use Rattle.floats.specs.Value.{value}

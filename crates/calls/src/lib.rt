@@ -1,13 +1,18 @@
 // The calls for C, on the three lent slices of a pool. Each takes numbers and slices alone and asks nothing of its caller: what does not fit is refused, and a refused
 // call has changed no lent word. A slice is a pointer and a count of elements in C, and a point is three signed coordinates, of which the low 7 bits count.
+use floats::Test;
+use pool::pair;
 use pool::seat;
+use pool::seat::Task;
 use pool::voxel;
 use pool::voxel::Found;
 use pool::whole;
 use pool::whole::Free;
 use pool::whole::Whether;
+use trees::turn::Work;
 ghost use mathlib.Core.Path.{_≡_};
-ghost use Rattle.seats.specs.Call.{One, Lookup, Sign, Insert, Remove, Fill, Clear, IsEmpty, Prepare, Count};
+ghost use Rattle.floats.specs.declared.Test.the-variants.{Below, Above, Between};
+ghost use Rattle.seats.specs.Call.{One, Two, Lookup, Sign, Insert, Remove, Fill, Cut, Clear, Prune, Flip, FillSigns, IsEmpty, Copy, Prepare, Count};
 ghost use Rattle.pool.specs.Answers.{memOf, Says, codeOf};
 ghost use Rattle.calls.specs.Forms.{pointAt, codeOnly, answerOf, answerF, countAnswerOf, countF, truthAnswerOf, truthF};
 
@@ -175,7 +180,7 @@ pub extern "C" fn yoldrick_fill(
 ) -> u32
     ensures { λ r. ⌜ Says codeOf (One seat (Fill bits)) (memOf (now (slots .entry)) (now (masks .entry)) (now (book .entry))) r (memOf (now (slots .exit)) (now (masks .exit)) (now (book .exit))) ⌝ }
 {
-    seat::fill(slots, masks, book, seat, bits)
+    seat::change(slots, masks, book, seat, Task::Fill(bits))
 }
 
 // The seat is empty, and its cells are free.
@@ -188,5 +193,119 @@ pub extern "C" fn yoldrick_clear(
 ) -> u32
     ensures { λ r. ⌜ Says codeOf (One seat Clear) (memOf (now (slots .entry)) (now (masks .entry)) (now (book .entry))) r (memOf (now (slots .exit)) (now (masks .exit)) (now (book .exit))) ⌝ }
 {
-    seat::clear(slots, masks, book, seat)
+    seat::change(slots, masks, book, seat, Task::Clear)
+}
+
+// Every empty branch of the seat is released.
+#[no_mangle]
+pub extern "C" fn yoldrick_prune(
+    slots: &mut [u32],
+    masks: &mut [u64],
+    book: &mut [u32],
+    seat: u32,
+) -> u32
+    ensures { λ r. ⌜ Says codeOf (One seat Prune) (memOf (now (slots .entry)) (now (masks .entry)) (now (book .entry))) r (memOf (now (slots .exit)) (now (masks .exit)) (now (book .exit))) ⌝ }
+{
+    seat::change(slots, masks, book, seat, Task::Turn(Work::Prune))
+}
+
+// Every active value strictly below the bound is hidden, and what is then empty is released.
+#[no_mangle]
+pub extern "C" fn yoldrick_cut_below(
+    slots: &mut [u32],
+    masks: &mut [u64],
+    book: &mut [u32],
+    seat: u32,
+    high: f32,
+) -> u32
+    ensures { λ r. ⌜ Says codeOf (One seat (Cut (Below high))) (memOf (now (slots .entry)) (now (masks .entry)) (now (book .entry))) r (memOf (now (slots .exit)) (now (masks .exit)) (now (book .exit))) ⌝ }
+{
+    seat::change(
+        slots,
+        masks,
+        book,
+        seat,
+        Task::Turn(Work::Cut(Test::Below(high))),
+    )
+}
+
+// Every active value strictly above the bound is hidden, and what is then empty is released.
+#[no_mangle]
+pub extern "C" fn yoldrick_cut_above(
+    slots: &mut [u32],
+    masks: &mut [u64],
+    book: &mut [u32],
+    seat: u32,
+    low: f32,
+) -> u32
+    ensures { λ r. ⌜ Says codeOf (One seat (Cut (Above low))) (memOf (now (slots .entry)) (now (masks .entry)) (now (book .entry))) r (memOf (now (slots .exit)) (now (masks .exit)) (now (book .exit))) ⌝ }
+{
+    seat::change(
+        slots,
+        masks,
+        book,
+        seat,
+        Task::Turn(Work::Cut(Test::Above(low))),
+    )
+}
+
+// Every active value from one bound to the other, both included, is hidden, and what is then empty is released.
+#[no_mangle]
+pub extern "C" fn yoldrick_cut_between(
+    slots: &mut [u32],
+    masks: &mut [u64],
+    book: &mut [u32],
+    seat: u32,
+    low: f32,
+    high: f32,
+) -> u32
+    ensures { λ r. ⌜ Says codeOf (One seat (Cut (Between low high))) (memOf (now (slots .entry)) (now (masks .entry)) (now (book .entry))) r (memOf (now (slots .exit)) (now (masks .exit)) (now (book .exit))) ⌝ }
+{
+    seat::change(
+        slots,
+        masks,
+        book,
+        seat,
+        Task::Turn(Work::Cut(Test::Between(low, high))),
+    )
+}
+
+// Every value of the seat, hidden ones too, has the other sign.
+#[no_mangle]
+pub extern "C" fn yoldrick_flip(
+    slots: &mut [u32],
+    masks: &mut [u64],
+    book: &mut [u32],
+    seat: u32,
+) -> u32
+    ensures { λ r. ⌜ Says codeOf (One seat Flip) (memOf (now (slots .entry)) (now (masks .entry)) (now (book .entry))) r (memOf (now (slots .exit)) (now (masks .exit)) (now (book .exit))) ⌝ }
+{
+    seat::change(slots, masks, book, seat, Task::Turn(Work::Flip))
+}
+
+// Every hidden slot of the seat has the sign of its side, and the seat is filled.
+#[no_mangle]
+pub extern "C" fn yoldrick_fill_signs(
+    slots: &mut [u32],
+    masks: &mut [u64],
+    book: &mut [u32],
+    seat: u32,
+) -> u32
+    ensures { λ r. ⌜ Says codeOf (One seat FillSigns) (memOf (now (slots .entry)) (now (masks .entry)) (now (book .entry))) r (memOf (now (slots .exit)) (now (masks .exit)) (now (book .exit))) ⌝ }
+{
+    seat::change(slots, masks, book, seat, Task::Signs)
+}
+
+// The second seat becomes what the first is, in cells of its own.
+#[no_mangle]
+pub extern "C" fn yoldrick_copy(
+    slots: &mut [u32],
+    masks: &mut [u64],
+    book: &mut [u32],
+    from: u32,
+    to: u32,
+) -> u32
+    ensures { λ r. ⌜ Says codeOf (Two Copy from to) (memOf (now (slots .entry)) (now (masks .entry)) (now (book .entry))) r (memOf (now (slots .exit)) (now (masks .exit)) (now (book .exit))) ⌝ }
+{
+    pair::copy(slots, masks, book, from, to)
 }

@@ -55,10 +55,10 @@ pub part-lt : (b c : ℕ) (x : ℤ) → part b c x < 2 ^ b
 unfolding part
 part-lt b c x = shr-lt b c (masked-lt (b + c) x)
 
-square : (b : ℕ) → 2 ^ (2 * b) ≡ 2 ^ b * 2 ^ b
+pub square : (b : ℕ) → 2 ^ (2 * b) ≡ 2 ^ b * 2 ^ b
 square b = ap (λ (k : ℕ). 2 ^ k) (omega arith) ∙ pow-add 2 b b
 
-cube : (b : ℕ) → 2 ^ (3 * b) ≡ (2 ^ b * 2 ^ b) * 2 ^ b
+pub cube : (b : ℕ) → 2 ^ (3 * b) ≡ (2 ^ b * 2 ^ b) * 2 ^ b
 cube b = ap (λ (k : ℕ). 2 ^ k) (omega arith) ∙ pow-add 2 (b + b) b ∙ ap (λ (k : ℕ). k * 2 ^ b) (pow-add 2 b b)
 
 -- three digits, as the slot rule writes them
@@ -69,22 +69,15 @@ digits-is : (b x y z : ℕ) → digits b x y z ≡ (x * 2 ^ b + y) * 2 ^ b + z
 unfolding digits
 digits-is b x y z = rw (square b) (omega arith)
 
+-- they are the number of a slot
+pub digits-in : (b x y z : ℕ) → x < 2 ^ b → y < 2 ^ b → z < 2 ^ b → x * 2 ^ (2 * b) + y * 2 ^ b + z < size b
+unfolding digits size
+digits-in b x y z h h' h'' = rw (cube b) (rw (digits-is b x y z) (digits-lt (digits-lt h h') h''))
+
 pub slot-lt : (b : ℕ) (bs : List ℕ) (p : Point) → slotOf b bs p < size b
-unfolding slotOf size digits
+unfolding slotOf
 slot-lt b bs p =
-    rw (cube b) (rw (digits-is b x y z) (digits-lt (digits-lt (part-lt b c (p .x)) (part-lt b c (p .y))) (part-lt b c (p .z))))
-  where
-    c : ℕ
-    c = total bs
-
-    x : ℕ
-    x = part b c (p .x)
-
-    y : ℕ
-    y = part b c (p .y)
-
-    z : ℕ
-    z = part b c (p .z)
+    digits-in b (part b (total bs) (p .x)) (part b (total bs) (p .y)) (part b (total bs) (p .z)) (part-lt b (total bs) (p .x)) (part-lt b (total bs) (p .y)) (part-lt b (total bs) (p .z))
 
 -- equal numbers have equal digits
 last-digit : (b q r q' r' : ℕ) → r < 2 ^ b → r' < 2 ^ b → q * 2 ^ b + r ≡ q' * 2 ^ b + r' → (q ≡ q') × (r ≡ r')

@@ -1,16 +1,18 @@
--- Sign fill keeps lookups, and filling twice is filling once. Assumes nothing.
-use mathlib.Core.Path.{_≡_, refl, _∙_, ap, fun-ext}
+-- Sign fill keeps lookups, filling twice is filling once, and the sign that comes to a slot by its coordinates. Assumes nothing.
+use mathlib.Core.Path.{_≡_, refl, sym, _∙_, ap, subst, fun-ext}
 use mathlib.Core.Bool.{Bool, true, false, false≢true}
 use mathlib.Core.List.{List, [], _∷_}
 use Prim.Native.Nat.{ℕ, zero, suc, _+_, _*_, _/_, _%_, _^_, _<_, _≤_}
 use native.Mathlib.Nat.{mod-le, mul-le-mul-right, div-mul-le-self, div-add-mod'}
 use native.Mathlib.Omega.{arith}
+use lib.Arith.{digits-lt, digits-div, digits-mod}
 use lib.Pow.{mod-mod-pow}
 use Rattle.floats.specs.Value.{negative, far, farWith}
 use Rattle.grid.specs.Geometry.{Point, slotOf}
 use Rattle.grid.specs.Node.{branch, tile, hidden, onSlot, slot-ind, isHidden, size, Node, SlotOf}
 use Rattle.grid.specs.SignFill.{firstSign, replaced, along, start, signI, signJ, signK, carried, written, filledRows, fillSigns, fillSignsS}
 use Rattle.grid.specs.Voxel.{lookup, lookupS}
+use Rattle.grid.proofs.Geometry.{square}
 
 pub fillSigns-lookup : (bs : List ℕ) (c : Node bs) (p : Point) → lookup bs (fillSigns bs c) p ≡ lookup bs c p
 unfolding lookup fillSigns filledRows
@@ -78,6 +80,29 @@ fillSigns-twice (b ∷ bs) n =
     (λ c k. ap branch (fillSigns-twice bs c)) (λ v k. refl) (λ v k. refl)
     (n i) (carried b bs (λ j. fillSignsS bs (n j)) (i % size b))))
     ∙ filled-twice b bs (λ i. fillSignsS bs (n i))
+
+-- the sign that comes to slot (x,y,z), by its number
+pub carried-at : (b : ℕ) (bs : List ℕ) (n : Node (b ∷ bs)) (x y z : ℕ) → y < 2 ^ b → z < 2 ^ b → carried b bs n (x * 2 ^ (2 * b) + y * 2 ^ b + z) ≡ signK b bs n x y z
+unfolding carried
+carried-at b bs n x y z h h' = λ j. signK b bs n (is-x j) (is-y j) (is-z j)
+  where
+    i : ℕ
+    i = x * 2 ^ (2 * b) + y * 2 ^ b + z
+
+    high : i ≡ x * 2 ^ (2 * b) + (y * 2 ^ b + z)
+    high = omega arith
+
+    low : y * 2 ^ b + z < 2 ^ (2 * b)
+    low = subst (λ (m : ℕ). y * 2 ^ b + z < m) (sym (square b)) (digits-lt h h')
+
+    is-x : i / 2 ^ (2 * b) ≡ x
+    is-x = ap (λ (k : ℕ). k / 2 ^ (2 * b)) high ∙ digits-div x low
+
+    is-y : i % 2 ^ (2 * b) / 2 ^ b ≡ y
+    is-y = ap (λ (k : ℕ). k % 2 ^ (2 * b) / 2 ^ b) high ∙ ap (λ (k : ℕ). k / 2 ^ b) (digits-mod x low) ∙ digits-div y h'
+
+    is-z : i % 2 ^ b ≡ z
+    is-z = ap (λ (k : ℕ). k % 2 ^ b) (rw (square b) (omega arith)) ∙ digits-mod (x * 2 ^ b + y) h'
 
 -- ---- an empty grid
 

@@ -34,10 +34,3 @@ pub record Alike (k : ℕ) (p q : Point) : Type 0 where
   pub x : masked k (p .x) ≡ masked k (q .x)
   pub y : masked k (p .y) ≡ masked k (q .y)
   pub z : masked k (p .z) ≡ masked k (q .z)
-
--- the table of levels: "top 3, middle 2, leaf 2", a grid of 128 voxels a side
-abbrev pub below128 : List ℕ
-below128 = 2 ∷ 2 ∷ []
-
-abbrev pub grid128 : List ℕ
-grid128 = 3 ∷ below128

@@ -26,14 +26,14 @@ abbrev link : St → (ℕ → ℕ) → ℕ → ℕ → ℕ
 link s f x k = cond (s .kid x k) (f (s .slot x k)) 0
 
 module _ (s : St) where
-  flat-none : (bs : List ℕ) (x k : ℕ) → cellsS bs (flat s x k) ≡ 0
+  pub flat-none : (bs : List ℕ) (x k : ℕ) → cellsS bs (flat s x k) ≡ 0
   flat-none bs x k = cases (s .val x k) (λ e. rw e refl) (λ e. rw e refl)
 
-  reach-leaf : (b x : ℕ) → reach b [] (tree b [] s x) ≡ 0
+  pub reach-leaf : (b x : ℕ) → reach b [] (tree b [] s x) ≡ 0
   unfolding reach tree
   reach-leaf b x = sum-zero (size b) _ (λ k h. flat-none [] x (k % size b))
 
-  reach-tree : (b c : ℕ) (bs : List ℕ) (x : ℕ) → reach b (c ∷ bs) (tree b (c ∷ bs) s x) ≡ sum (size b) (link s (λ d. suc (reach c bs (tree c bs s (8 + d)))) x)
+  pub reach-tree : (b c : ℕ) (bs : List ℕ) (x : ℕ) → reach b (c ∷ bs) (tree b (c ∷ bs) s x) ≡ sum (size b) (link s (λ d. suc (reach c bs (tree c bs s (8 + d)))) x)
   unfolding reach tree cells
   reach-tree b c bs x = sum-same (size b) _ _ (λ k h. ap (λ (i : ℕ). cellsS (c ∷ bs) (slotAt (tree c bs s) s x i)) (mod-eq-of-lt h) ∙ one k)
     where

@@ -3,7 +3,7 @@ use mathlib.Core.Path.{_≡_, refl, sym, ap, _∙_, fun-ext}
 use mathlib.Core.Bool.{cond}
 use mathlib.Core.Logic.{_≢_}
 use Prim.Native.Nat.{ℕ, zero, suc, _%_, _<_, _≤_}
-use native.Mathlib.Nat.{mod-lt}
+use native.Mathlib.Nat.{mod-lt, mod-eq-of-lt}
 use native.Mathlib.Omega.{arith}
 use lib.Dec.{ltb}
 use borrow.Author.Tests.{lt-ltb, le-ltb, ltb-true, ltb-false}
@@ -19,13 +19,13 @@ use Rattle.means.proofs.Turned.{stay, then, into}
 
 -- ---- the first m of w slots changed, each by the rule of its own number
 module _ {A : Type 0} (w : ℕ) (f : ℕ → A → A) (t : ℕ → A) where
-  abbrev upto : ℕ → ℕ → A
+  abbrev pub upto : ℕ → ℕ → A
   upto m j = cond (ltb (j % w) m) (f (j % w) (t j)) (t j)
 
-  upto-none : t ≡ upto 0
+  pub upto-none : t ≡ upto 0
   upto-none = fun-ext (λ j. sym (rw (le-ltb (j % w) 0 (omega arith)) refl))
 
-  upto-more : (m : ℕ) → changed w m (f m) (upto m) ≡ upto (suc m)
+  pub upto-more : (m : ℕ) → changed w m (f m) (upto m) ≡ upto (suc m)
   upto-more m = sym (changed-is w m (f m) (upto m) (upto (suc m))
       (λ j e. rw (lt-ltb (j % w) (suc m) (omega arith), le-ltb (j % w) m (omega arith)) (ap (λ (i : ℕ). f i (t j)) e))
       (λ j ne. on-case (ltb (j % w) m)
@@ -35,7 +35,11 @@ module _ {A : Type 0} (w : ℕ) (f : ℕ → A → A) (t : ℕ → A) where
       past : (j : ℕ) → j % w ≢ m → m ≤ j % w → suc m ≤ j % w
       past j ne h = omega arith
 
-  upto-all : 0 < w → upto w ≡ (λ j. f (j % w) (t j))
+  -- a slot from m on is as it was
+  pub upto-left : (m j : ℕ) → m ≤ j → j < w → upto m j ≡ t j
+  upto-left m j l h = rw (mod-eq-of-lt h, le-ltb j m l) refl
+
+  pub upto-all : 0 < w → upto w ≡ (λ j. f (j % w) (t j))
   upto-all h = fun-ext (λ j. rw (lt-ltb (j % w) w (mod-lt j h)) refl)
 
 -- ---- the law: where the step at slot k changes it by its rule, and carries P on, the steps at all slots change every slot by its rule

@@ -55,7 +55,7 @@ module _ {n : ℕ} {s : St} (sd : Sound n s) (l x k u : ℕ) (a : Bool) (h : At 
   pub grow-sound : Sound n r
   grow-sound = attach.attach-sound sd x k u a hx hk fx off some fu
 
-  grow-here : (r .slot x k ≡ c) × (r .kid x k ≡ true) × (r .val x k ≡ false)
+  pub grow-here : (r .slot x k ≡ c) × (r .kid x k ≡ true) × (r .val x k ≡ false)
   grow-here = attach.here sd x k u a hx hk fx off some fu
 
   old : (y : ℕ) → Live s y → y ≢ 8 + c

@@ -2,7 +2,7 @@
 use mathlib.Core.Path.{_≡_, refl, sym, ap, _∙_, subst}
 use mathlib.Core.Bool.{Bool, true, false, false≢true}
 use mathlib.Core.List.{[]}
-use Prim.Native.Nat.{ℕ, zero, suc, _+_, _-_, _<_, _≤_}
+use Prim.Native.Nat.{ℕ, zero, suc, _+_, _<_, _≤_}
 use native.Mathlib.Omega.{arith}
 use lib.ListN.{length}
 use borrow.Author.Tests.{lt-ltb}
@@ -10,14 +10,14 @@ use Rattle.floats.specs.Value.{isFinite, equal, far}
 use Rattle.floats.proofs.Words.{on-case}
 use Rattle.floats.proofs.Finite.{finite-far}
 use Rattle.grid.specs.Geometry.{Point, slotOf}
-use Rattle.grid.specs.Node.{branch, tile, size}
+use Rattle.grid.specs.Node.{branch, tile}
 use Rattle.grid.specs.Voxel.{insertS, insert}
 use Rattle.grid.proofs.Geometry.{slot-lt}
 use Rattle.nodes.specs.State.{St, Link, Sound}
 use Rattle.nodes.specs.Change.{next, attachS}
 use Rattle.nodes.specs.Walk.{branching, below, viewS, reachS, needInsertR, readyS, insertM}
 use Rattle.means.specs.Level.{levels, span, treeAt, filled, At, Turned}
-use Rattle.means.proofs.Levels.{at-link, at-down, at-finite}
+use Rattle.means.proofs.Levels.{leaf-ends, at-link, at-down, at-finite}
 use Rattle.means.proofs.Turned.{idle, ruled, lift}
 use Rattle.means.proofs.Slots.{tree-branch, tree-tile, tree-hidden}
 use Rattle.means.proofs.Lookup.{need-insert-most}
@@ -69,8 +69,8 @@ module _ (n : ℕ) (p : Point) (w : ℕ) where
 
   module _ (fw : isFinite w ≡ true) where
     leaf : Inserted zero
-    unfolding insertM insert insertS size
-    leaf s x sd h c = put-turned sd x (slotOf 2 [] p) w true h fw
+    unfolding insertM insert insertS
+    leaf s x sd h c = put-turned sd zero x (slotOf 2 [] p) h (λ f. absurd (leaf-ends n s x h f)) w true fw
 
     module _ (l : ℕ) (ih : Inserted l) (s : St) (x : ℕ) (sd : Sound n s) (h : At n s (suc l) x) where
       abbrev i : ℕ

@@ -89,9 +89,12 @@ module _ {n : ℕ} {s : St} (sd : Sound n s) where
       (omega arith, omega (arith, d .inside), (omega arith, omega (arith, h .0, wide-top x (h .0), at-wide n s 2 x h)))
   at-down (suc (suc l)) x k h q e = absurd (omega (arith, h .1))
 
-  -- a value that the node has is finite
+  -- a value that the node has is finite: of a slot that is no branch, and by level
+  pub at-value : (l x k : ℕ) → At n s l x → k < span l → (Fork s x → s .kid x k ≡ false) → isFinite (s .slot x k) ≡ true
+  at-value l x k h q off = sd .value x k (at-inside n s l x h) (omega (arith, at-wide n s l x h)) (at-live n s l x h) off
+
   pub at-leaf-finite : (x k : ℕ) → At n s zero x → k < span zero → isFinite (s .slot x k) ≡ true
-  at-leaf-finite x k h q = sd .value x k (at-inside n s zero x h) (omega (arith, at-wide n s zero x h)) (at-live n s zero x h) (λ f. absurd (leaf-ends n s x h f))
+  at-leaf-finite x k h q = at-value zero x k h q (λ f. absurd (leaf-ends n s x h f))
 
   pub at-finite : (l x k : ℕ) → At n s (suc l) x → k < span (suc l) → s .kid x k ≡ false → isFinite (s .slot x k) ≡ true
-  at-finite l x k h q e = sd .value x k (at-inside n s (suc l) x h) (omega (arith, at-wide n s (suc l) x h)) (at-live n s (suc l) x h) (λ f. e)
+  at-finite l x k h q e = at-value (suc l) x k h q (λ _. e)

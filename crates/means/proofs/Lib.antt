@@ -1,5 +1,8 @@
 -- The theorems on what the memory of a pool stands for.
 pub mod Attach
+pub mod Bare
+pub mod Below
+pub mod Copy
 pub mod Count
 pub mod Drop
 pub mod Each
@@ -18,9 +21,13 @@ pub mod Prune
 pub mod Put
 pub mod Release
 pub mod Remove
+pub mod Rows
 pub mod SeatTurn
+pub mod Signs
+pub mod SlotSigns
 pub mod Slots
 pub mod Sums
 pub mod Test
+pub mod Turn
 pub mod Turned
 pub mod Wipe

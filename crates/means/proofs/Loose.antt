@@ -1,9 +1,9 @@
--- The insert, remove and wipe walks on any pool, sound or not, leave each slot's word as it was or finite. Assumes nothing.
+-- The insert and remove walks on any pool, sound or not, leave each slot's word as it was or finite. Assumes nothing.
 use mathlib.Core.Path.{_≡_, refl, sym, ap, _∙_, subst}
 use mathlib.Core.Bool.{Bool, true, false, not, _&&_, _||_, false≢true}
 use mathlib.Core.List.{List, [], _∷_}
 use mathlib.Core.Logic.{_⊎_, inl, inr}
-use Prim.Native.Nat.{ℕ, zero, suc, _+_, _-_, _*_, _/_, _%_, _<_, _≤_}
+use Prim.Native.Nat.{ℕ, _+_, _-_, _/_, _%_, _<_, _≤_}
 use native.Mathlib.Omega.{arith}
 use lib.ListN.{length, getD, List·getD-eq-default}
 use lib.Dec.{ltb, leb, eqb}
@@ -13,17 +13,13 @@ use Rattle.floats.proofs.Finite.{finite-far, small-finite}
 use Rattle.bitset.proofs.Digits.{lt-or-le}
 use Rattle.bitset.proofs.Every.{and-both}
 use Rattle.grid.specs.Geometry.{Point, slotOf}
-use Rattle.grid.specs.Node.{size}
 use Rattle.grid.proofs.Places.{cond-at}
 use Rattle.nodes.specs.State.{St}
-use Rattle.nodes.specs.Layout.{wordOf}
+use Rattle.nodes.specs.Layout.{wordOf, tops, slotsLength}
 use Rattle.nodes.specs.Range.{In}
 use Rattle.nodes.specs.Change.{inCell, putS, hideS, next, attachS, releaseS, markS}
-use Rattle.nodes.specs.Steps.{slotS, roomS}
 use Rattle.nodes.specs.Walk.{viewS, readyS, stays, grownM, insertAt, insertM}
 use Rattle.nodes.specs.Remove.{bareS, shutM, removeAt, removeM}
-use Rattle.nodes.specs.Each.{eachS}
-use Rattle.nodes.specs.Wipe.{dropM, shedM, wipeAt, wipeM}
 use Rattle.nodes.specs.declared.walk.Slot.{Slot}
 use Rattle.nodes.specs.declared.walk.Slot.the-variants as slot
 use Rattle.nodes.proofs.Places.{wide-top, wide-cell, word-top, word-cell}
@@ -55,10 +51,6 @@ module _ (x k : ℕ) (s : St) where
   loose-put : (w : ℕ) (a : Bool) → isFinite w ≡ true → LooseS s (putS x k w a s)
   unfolding putS
   loose-put w a f y j = cond-at (Loose (s .slot y j)) (eqb y x && eqb j k) w (s .slot y j) (λ _. inr f) (λ _. inl refl)
-
-  loose-set : (w : ℕ) (b a : Bool) → isFinite w ≡ true → LooseS s (slotS x k w b a s)
-  unfolding slotS
-  loose-set w b a f y j = cond-at (Loose (s .slot y j)) (eqb y x && eqb j k) w (s .slot y j) (λ _. inr f) (λ _. inl refl)
 
   loose-hide : LooseS s (hideS x k s)
   unfolding hideS
@@ -130,49 +122,18 @@ module _ {n : ℕ} (l : n < 65536) where
   loose-remove b (c ∷ bs) p x s =
       remove-at bs (removeM c bs n p) (loose-remove c bs p) x (slotOf b (c ∷ bs) p) s (viewS (c ∷ bs) s x (slotOf b (c ∷ bs) p))
 
--- ---- a whole node
-
--- a step at each slot
-loose-each : (step : ℕ → St → St) → ((k : ℕ) (s : St) → LooseS s (step k s)) → (m : ℕ) (s : St) → LooseS s (eachS step m s)
-unfolding eachS
-loose-each step f zero s = loose-same s
-loose-each step f (suc m) s = loose-then s (eachS step m s) (step m (eachS step m s)) (loose-each step f m s) (f m (eachS step m s))
-
--- the branch of one slot
-loose-shed : (go : ℕ → St → St) → ((y : ℕ) (s : St) → LooseS s (go y s)) → (n x k : ℕ) (s : St) → LooseS s (shedM go n x k s)
-unfolding shedM
-loose-shed go f n x k s =
-    cond-at (LooseS s) (s .kid x k) _ _
-    (λ _. cond-at (LooseS s) (ltb (s .slot x k) n) _ _
-    (λ _. loose-then s (go c s) (dropM n x k (go c s)) (f c s) (cond-at (LooseS (go c s)) (roomS n x k (go c s)) _ _ (λ _. loose-release x k (go c s)) (λ _. loose-same (go c s))))
-    (λ _. loose-same s))
-    (λ _. loose-same s)
-  where
-    c : ℕ
-    c = 8 + s .slot x k
-
-pub wipe-loose : (b : ℕ) (bs : List ℕ) (n w : ℕ) (a : Bool) (x : ℕ) (s : St) → isFinite w ≡ true → LooseS s (wipeM b bs n w a x s)
-unfolding wipeM
-wipe-loose b [] n w a x s fw = loose-each (λ k. slotS x k w false a) (λ k r. loose-set x k r w false a fw) (size b) s
-wipe-loose b (c ∷ bs) n w a x s fw =
-    loose-each (wipeAt go n w a x)
-    (λ k r. loose-then r (shedM go n x k r) (wipeAt go n w a x k r) (loose-shed go (λ y t. wipe-loose c bs n far false y t finite-far) n x k r) (loose-set x k (shedM go n x k r) w false a fw)) (size b) s
-  where
-    go : ℕ → St → St
-    go = wipeM c bs n far false
-
 -- ---- from slots to lent words
 
 -- every word of a pool of n cells is that of a slot
-word-at : (n : ℕ) (P : ℕ → Type 0) → ((x k : ℕ) → In n x k → P (wordOf x k)) → (i : ℕ) → i < 4096 + 64 * n → P i
-word-at n P h i l = elim (lt-or-le i 4096) [
+word-at : (n : ℕ) (P : ℕ → Type 0) → ((x k : ℕ) → In n x k → P (wordOf x k)) → (i : ℕ) → i < slotsLength n → P i
+word-at n P h i l = elim (lt-or-le i tops) [
   | inl a ↦
       let t : i / 512 < 8 = omega arith in
       subst P (omega (arith, word-top (i / 512) (i % 512) t)) (h (i / 512) (i % 512) (record { node = omega arith; slot = omega (arith, wide-top (i / 512) t) }))
   | inr a ↦
-      let x : ℕ = 8 + (i - 4096) / 64 in
+      let x : ℕ = 8 + (i - tops) / 64 in
       let t : 8 ≤ x = omega arith in
-      subst P (omega (arith, word-cell x ((i - 4096) % 64) t)) (h x ((i - 4096) % 64) (record { node = omega arith; slot = omega (arith, wide-cell x t) }))
+      subst P (omega (arith, word-cell x ((i - tops) % 64) t)) (h x ((i - tops) % 64) (record { node = omega arith; slot = omega (arith, wide-cell x t) }))
 ]
 
 -- from m to m' the state has become r with a mark set

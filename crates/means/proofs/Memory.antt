@@ -1,31 +1,27 @@
 -- What the refusals read of a sound pool is what its seats have: the laws that every promise rests on. Assumes nothing.
 use mathlib.Core.Path.{_≡_, refl, sym, _∙_, ap, ap₂, subst}
-use mathlib.Core.Bool.{Bool, true, false, cond, _&&_, _||_, false≢true}
-use mathlib.Core.List.{List, [], _∷_}
-use mathlib.Core.Option.{Option}
-use Prim.Native.Nat.{ℕ, zero, suc, _+_, _-_, _*_, _/_, _<_, _≤_}
+use mathlib.Core.Bool.{Bool, true, false, _&&_, _||_}
+use mathlib.Core.List.{[], _∷_}
+use Prim.Native.Nat.{ℕ, _+_, _-_, _<_, _≤_}
 use native.Mathlib.Omega.{arith}
 use lib.ListN.{length}
 use lib.Dec.{ltb, leb, eqb}
 use borrow.Author.Tests.{lt-ltb, le-leb, leb-false, ltb-true, eqb-true}
-use Rattle.floats.specs.Value.{isFinite}
-use Rattle.bitset.specs.Set.{every}
 use Rattle.bitset.proofs.Every.{and-both, every-intro}
 use Rattle.grid.specs.Geometry.{Point}
-use Rattle.grid.specs.Node.{Proper, sum}
+use Rattle.grid.specs.Node.{Proper}
 use Rattle.grid.specs.Voxel.{lookup, signAt}
 use Rattle.grid.specs.Whole.{reach}
 use Rattle.grid.proofs.Places.{sum-same}
 use Rattle.seats.specs.Call.{Call, One, Two, Prepare, Count, Lookup, Sign, Remove, Insert, Fill, Cut, Clear, Prune, Flip, FillSigns, IsEmpty, Copy, Combine, names}
 use Rattle.seats.specs.Promise.{among, Agree}
-use Rattle.seats.specs.Seat.{Seat, State, reached, used, free}
+use Rattle.seats.specs.Seat.{Seat, reached, used, free}
 use Rattle.seats.specs.Step.{readsOf, needOf, needOne, needTwo}
 use Rattle.seats.proofs.Names.{among-head}
-use Rattle.nodes.specs.State as state
-use Rattle.nodes.specs.State.{St, tree}
+use Rattle.nodes.specs.State.{tree}
+use Rattle.nodes.specs.Layout.{slotsLength, masksLength, bookLength}
 use Rattle.nodes.specs.Walk.{Reach, active, hidden, broken, reachS, needInsertR, needRemoveR}
 use Rattle.nodes.specs.Test.{soundB}
-use Rattle.means.specs.Ends.{shown, signed}
 use Rattle.means.specs.Level.{At}
 use Rattle.means.specs.Mem.{Mem, cellsOf, fits, poolOf, SoundMem, seatOf, stateOf, walk, whole, linked, pathOf, needIn, readsIn, lookupIn, negativeIn}
 use Rattle.means.proofs.Count.{pool-equation}
@@ -38,23 +34,23 @@ use Rattle.means.proofs.Test as test
 pub record Fitting (m : Mem) : Type 0 where
   pub some : 0 < cellsOf m
   pub most : cellsOf m < 65536
-  pub slots : length (m .slots) ≡ 4096 + 64 * cellsOf m
-  pub masks : length (m .masks) ≡ 128 + 2 * cellsOf m
-  pub book : length (m .book) ≡ 9 + 2 * cellsOf m
+  pub slots : length (m .slots) ≡ slotsLength (cellsOf m)
+  pub masks : length (m .masks) ≡ masksLength (cellsOf m)
+  pub book : length (m .book) ≡ bookLength (cellsOf m)
 
 pub fitting : (m : Mem) → fits m ≡ true → Fitting m
 unfolding fits
 fitting m e =
     let a = and-both (ltb 0 (cellsOf m)) _ e in
     let b = and-both (ltb (cellsOf m) 65536) _ (a .1) in
-    let c = and-both (eqb (length (m .slots)) (4096 + 64 * cellsOf m)) _ (b .1) in
-    let d = and-both (eqb (length (m .masks)) (128 + 2 * cellsOf m)) _ (c .1) in
+    let c = and-both (eqb (length (m .slots)) (slotsLength (cellsOf m))) _ (b .1) in
+    let d = and-both (eqb (length (m .masks)) (masksLength (cellsOf m))) _ (c .1) in
     record {
       some = ltb-true 0 (cellsOf m) (a .0);
       most = ltb-true (cellsOf m) 65536 (b .0);
-      slots = eqb-true (length (m .slots)) (4096 + 64 * cellsOf m) (c .0);
-      masks = eqb-true (length (m .masks)) (128 + 2 * cellsOf m) (d .0);
-      book = eqb-true (length (m .book)) (9 + 2 * cellsOf m) (d .1);
+      slots = eqb-true (length (m .slots)) (slotsLength (cellsOf m)) (c .0);
+      masks = eqb-true (length (m .masks)) (masksLength (cellsOf m)) (d .0);
+      book = eqb-true (length (m .book)) (bookLength (cellsOf m)) (d .1);
     }
 
 -- the test is that the pool is sound

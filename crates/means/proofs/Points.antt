@@ -2,21 +2,18 @@
 use mathlib.Core.Path.{_≡_, sym, ap, ap₂, _∙_, subst, fun-ext}
 use mathlib.Core.Bool.{true, cond}
 use mathlib.Core.List.{List, [], _∷_}
-use Prim.Native.Nat.{ℕ, suc, _+_, _-_, _*_, _/_, _%_, _^_, _<_, _≤_}
+use Prim.Native.Nat.{ℕ, suc, _+_, _-_, _*_, _/_, _%_, _^_, _≤_}
 use native.Mathlib.Omega.{arith}
 use native.Mathlib.Nat.{mod-eq-of-lt}
-use lib.IntN.{ℤ, pos}
+use lib.IntN.{ℤ}
 use lib.ListN.{length}
 use lib.Dec.{ltb}
 use Rattle.grid.specs.Geometry.{Point, masked, total, part, slotOf, Alike}
 use Rattle.grid.proofs.Geometry.{masked-lt, masked-low}
 use Rattle.nodes.specs.State.{St}
 use Rattle.nodes.specs.Change.{putS, hideS}
-use Rattle.nodes.specs.Walk.{voxelAt, pointOf, viewS, reachAt, reachS, broken, insertAt, insertM}
+use Rattle.nodes.specs.Walk.{voxelOf, pointOf, viewS, reachAt, reachS, broken, insertAt, insertM}
 use Rattle.nodes.specs.Remove.{removeAt, removeM}
-
-abbrev pub voxelOf : Point → ℕ
-voxelOf p = voxelAt (p .x) (p .y) (p .z)
 
 -- a part of a coordinate is one of its masked bits
 part-same : (k b c : ℕ) (x y : ℤ) → b + c ≤ k → masked k x ≡ masked k y → part b c x ≡ part b c y

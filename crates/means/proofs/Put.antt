@@ -8,13 +8,14 @@ use native.Mathlib.Nat.{mod-lt}
 use lib.Dec.{eqb}
 use borrow.Author.Tests.{eq-eqb, ne-eqb, lt-ltb}
 use Rattle.floats.specs.Value.{isFinite}
-use Rattle.grid.specs.Node.{Slot, tile, hidden, size, changed}
+use Rattle.grid.specs.Node.{Slot, tile, hidden, changed}
 use Rattle.grid.proofs.Places.{changed-is}
 use Rattle.nodes.specs.State.{St, wide, Live, Fork, Free, Held, Link, Sound, flat, slotAt, tree}
-use Rattle.nodes.specs.Change.{at1, at2, inCell, putS}
+use Rattle.nodes.specs.Change.{at1, at2, inCell, putS, hideS}
 use Rattle.nodes.specs.Steps.{slotS}
+use Rattle.trees.specs.Slot.{wordS}
 use Rattle.means.specs.Level.{span, treeAt, At, In, Equal, Same, Turned}
-use Rattle.means.proofs.Levels.{span-pos, at-fork, leaf-ends, kept-at}
+use Rattle.means.proofs.Levels.{span-pos, at-fork, kept-at}
 use Rattle.means.proofs.Slots.{flat-same, slot-same, slot-flat}
 use Rattle.means.proofs.Frame.{in-own, tree-frame, in-frame, own-apart}
 
@@ -170,11 +171,28 @@ module _ {n : ℕ} {s : St} (sd : Sound n s) (l x k w : ℕ) (b a : Bool) (h : A
         marks = refl;
       }
 
--- in a leaf, whose child bits say nothing
-pub put-turned : {n : ℕ} {s : St} → Sound n s → (x k w : ℕ) (a : Bool) → At n s zero x → isFinite w ≡ true
-    → Turned n zero x s (putS x k w a s) (changed 64 k (λ _. cond a (tile w) (hidden w)) (treeAt zero s x))
-unfolding putS slotS size
-put-turned {n} {s} sd x k w a h fw =
-    subst (λ (m : ℕ → ℕ → Bool). Turned n zero x s (record { slot = at2 (s .slot) x k w; kid = m; val = at2 (s .val) x k a; count = s .count; stack = s .stack; tag = s .tag; mark = s .mark })
-    (changed 64 k (λ _. cond a (tile w) (hidden w)) (treeAt zero s x)))
-    (at2-self (s .kid) x k) (set-turned sd zero x k w (s .kid x k) a h (λ f. absurd (leaf-ends n s x h f)) fw)
+-- ---- the same by the changes that name no child bit
+module _ {n : ℕ} {s : St} (sd : Sound n s) (l x k : ℕ) (h : At n s l x) (off : Fork s x → s .kid x k ≡ false) where
+  -- a word put
+  pub put-turned : (w : ℕ) (a : Bool) → isFinite w ≡ true → Turned n l x s (putS x k w a s) (changed (span l) k (λ _. cond a (tile w) (hidden w)) (treeAt l s x))
+  unfolding putS slotS
+  put-turned w a fw =
+      subst (λ (m : ℕ → ℕ → Bool). Turned n l x s (record { slot = at2 (s .slot) x k w; kid = m; val = at2 (s .val) x k a; count = s .count; stack = s .stack; tag = s .tag; mark = s .mark })
+      (changed (span l) k (λ _. cond a (tile w) (hidden w)) (treeAt l s x)))
+      (at2-self (s .kid) x k) (set-turned sd l x k w (s .kid x k) a h (λ f. (off f, off f)) fw)
+
+  -- the slot hidden, its word kept
+  pub hide-turned : isFinite (s .slot x k) ≡ true → Turned n l x s (hideS x k s) (changed (span l) k (λ _. hidden (s .slot x k)) (treeAt l s x))
+  unfolding putS hideS
+  hide-turned fw =
+      subst (λ (m : ℕ → ℕ → ℕ). Turned n l x s (record { slot = m; kid = s .kid; val = at2 (s .val) x k false; count = s .count; stack = s .stack; tag = s .tag; mark = s .mark })
+      (changed (span l) k (λ _. hidden (s .slot x k)) (treeAt l s x)))
+      (at2-self (s .slot) x k) (put-turned (s .slot x k) false fw)
+
+  -- its word changed, active or hidden as before
+  pub word-turned : (w : ℕ) → isFinite w ≡ true → Turned n l x s (wordS x k w s) (changed (span l) k (λ _. cond (s .val x k) (tile w) (hidden w)) (treeAt l s x))
+  unfolding putS wordS
+  word-turned w fw =
+      subst (λ (m : ℕ → ℕ → Bool). Turned n l x s (record { slot = at2 (s .slot) x k w; kid = s .kid; val = m; count = s .count; stack = s .stack; tag = s .tag; mark = s .mark })
+      (changed (span l) k (λ _. cond (s .val x k) (tile w) (hidden w)) (treeAt l s x)))
+      (at2-self (s .val) x k) (put-turned w (s .val x k) fw)

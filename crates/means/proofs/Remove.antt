@@ -1,83 +1,30 @@
 -- The remove walk on a sound pool with the cells that it needs does the meaning's remove and nothing else. Assumes nothing.
-use mathlib.Core.Path.{_≡_, refl, sym, ap, ap₂, _∙_, subst}
-use mathlib.Core.Bool.{Bool, true, false, not, _&&_}
+use mathlib.Core.Path.{_≡_, refl, sym, ap, _∙_, subst}
+use mathlib.Core.Bool.{true, false}
 use mathlib.Core.List.{[]}
-use Prim.Native.Nat.{ℕ, zero, suc, _+_, _-_, _<_, _≤_}
+use Prim.Native.Nat.{ℕ, zero, suc, _+_, _<_, _≤_}
 use native.Mathlib.Omega.{arith}
-use native.Mathlib.Nat.{mod-eq-of-lt}
 use lib.ListN.{length}
-use borrow.Author.Tests.{lt-ltb, not-true}
-use Rattle.floats.specs.Value.{isFinite, far}
+use borrow.Author.Tests.{lt-ltb}
+use Rattle.floats.specs.Value.{isFinite}
 use Rattle.floats.proofs.Words.{on-case}
-use Rattle.bitset.specs.Set as set
-use Rattle.bitset.proofs.Every.{and-both, every-elim}
 use Rattle.grid.specs.Geometry.{Point, slotOf}
-use Rattle.grid.specs.Node.{branch, hidden, onSlot, isHidden, size, changed, every}
-use Rattle.grid.specs.Voxel.{kept, removeS, remove}
+use Rattle.grid.specs.Node.{branch, hidden, onSlot}
+use Rattle.grid.specs.Voxel.{removeS, remove}
 use Rattle.grid.proofs.Geometry.{slot-lt}
-use Rattle.nodes.specs.State.{St, Fork, Link, Sound, flat, slotAt, tree}
-use Rattle.nodes.specs.Change.{at2, putS, hideS, next, attachS}
+use Rattle.nodes.specs.State.{St, Link, Sound, flat}
+use Rattle.nodes.specs.Change.{next, attachS}
 use Rattle.nodes.specs.Walk.{branching, below, viewS, reachS, needRemoveR, readyS}
-use Rattle.means.specs.Level.{levels, span, treeAt, filled, At, Kept, Turned}
-use Rattle.nodes.specs.Remove.{noneS, bareS, shutM, removeM}
-use Rattle.means.proofs.Levels.{wide-cell, at-wide, leaf-ends, at-link, at-down, at-finite, at-leaf-finite}
-use Rattle.means.proofs.Turned.{idle, ruled, over, own, lift}
-use Rattle.means.proofs.Slots.{tree-branch, tree-tile, tree-hidden}
+use Rattle.means.specs.Level.{levels, span, treeAt, filled, At, Turned}
+use Rattle.nodes.specs.Remove.{shutM, removeM}
+use Rattle.means.proofs.Levels.{leaf-ends, at-link, at-down, at-finite, at-leaf-finite}
+use Rattle.means.proofs.Turned.{idle, ruled}
+use Rattle.means.proofs.Slots.{tree-leaf, tree-branch, tree-tile, tree-hidden}
 use Rattle.means.proofs.Lookup.{need-remove-most}
-use Rattle.means.proofs.Put.{at2-self, put-turned}
+use Rattle.means.proofs.Put.{hide-turned}
 use Rattle.means.proofs.Attach.{ready-sound}
 use Rattle.means.proofs.Grow.{grow-sound, grow-at, grow-tree, grow-then}
-use Rattle.means.proofs.Prune.{prune-room, prune-turned}
-
--- ---- a leaf's slot hidden
-hide-is : (x k : ℕ) (s : St) → putS x k (s .slot x k) false s ≡ hideS x k s
-unfolding putS hideS
-hide-is x k s =
-    ap (λ f. record { slot = f; kid = s .kid; val = at2 (s .val) x k false; count = s .count; stack = s .stack; tag = s .tag; mark = s .mark }) (at2-self (s .slot) x k)
-
--- ---- the test of the masks is that every slot is hidden
-hidden-flat : (s : St) (y j : ℕ) → isHidden (flat {C = ⊥} s y j) ≡ not (s .val y j)
-unfolding isHidden
-hidden-flat s y j = on-case (s .val y j) (λ v. rw v refl) (λ v. rw v refl)
-
-hidden-slot : {C : Type 0} (f : ℕ → C) (s : St) (y j : ℕ) → isHidden (slotAt f s y j) ≡ (not (s .val y j) && not (s .kid y j))
-unfolding isHidden
-hidden-slot f s y j = on-case (s .kid y j)
-    (λ e. on-case (s .val y j) (λ v. rw (e, v) refl) (λ v. rw (e, v) refl))
-    (λ e. on-case (s .val y j) (λ v. rw (e, v) refl) (λ v. rw (e, v) refl))
-
-every-as : {A : Type 0} (f : A → Bool) (k : ℕ) (t : ℕ → A) (m : ℕ → Bool) → ((j : ℕ) → j < k → f (t j) ≡ m j) → every f k t ≡ set.every m k
-unfolding every set.every
-every-as f zero t m h = refl
-every-as f (suc k) t m h = ap₂ (λ (a b : Bool). a && b) (h k (omega arith)) (every-as f k t m (λ j l. h j (omega arith)))
-
-every-and : (m o : ℕ → Bool) (k : ℕ) → set.every (λ j. m j && o j) k ≡ (set.every m k && set.every o k)
-unfolding set.every
-every-and m o zero = refl
-every-and m o (suc k) = ap (λ (b : Bool). (m k && o k) && b) (every-and m o k) ∙ swap (m k) (o k) (set.every m k) (set.every o k)
-  where
-    swap : (a b c d : Bool) → ((a && b) && (c && d)) ≡ ((a && c) && (b && d))
-    swap true true c d = refl
-    swap true false true d = refl
-    swap true false false d = refl
-    swap false b c d = refl
-
-pub bare-is : (l : ℕ) (s : St) (y : ℕ) → span l ≡ 64 → bareS (below l) s y ≡ every isHidden (span l) (treeAt l s y)
-unfolding tree bareS
-bare-is zero s y w =
-    ap (set.every (λ j. not (s .val y j))) (sym w)
-    ∙ sym (every-as isHidden (span zero) (treeAt zero s y) (λ j. not (s .val y j)) (λ j h. ap (λ (i : ℕ). isHidden (flat {C = ⊥} s y i)) (mod-eq-of-lt h) ∙ hidden-flat s y j))
-bare-is (suc l) s y w =
-    sym (every-and (λ j. not (s .val y j)) (λ j. not (s .kid y j)) 64)
-    ∙ ap (set.every (λ j. not (s .val y j) && not (s .kid y j))) (sym w)
-    ∙ sym (every-as isHidden (span (suc l)) (treeAt (suc l) s y) (λ j. not (s .val y j) && not (s .kid y j))
-    (λ j h. ap (λ (i : ℕ). isHidden (slotAt (treeAt l s) s y i)) (mod-eq-of-lt h) ∙ hidden-slot (treeAt l s) s y j))
-
--- then nothing is below the node
-pub bare-kids : (n : ℕ) (s : St) (l y : ℕ) → At n s l y → bareS (below l) s y ≡ true → Fork s y → (j : ℕ) → j < 64 → s .kid y j ≡ false
-unfolding bareS
-bare-kids n s zero y h e f j q = absurd (leaf-ends n s y h f)
-bare-kids n s (suc l) y h e f j q = not-true (s .kid y j) (every-elim (λ j. not (s .kid y j)) 64 (and-both (noneS (s .val) y) (noneS (s .kid) y) e .1) j q)
+use Rattle.means.proofs.Drop.{shut-turned}
 
 module _ (n : ℕ) (p : Point) where
   abbrev need : ℕ → ℕ → St → ℕ
@@ -117,11 +64,10 @@ module _ (n : ℕ) (p : Point) where
       → Turned n l x s (removeM (branching l) (below l) n p x s) (remove (levels l) p (treeAt l s x))
 
   leaf : Removed zero
-  unfolding removeM remove removeS size tree
+  unfolding removeM remove removeS
   leaf s x sd h c =
-      subst (λ r. Turned n zero x s r (remove (levels zero) p (treeAt zero s x))) (hide-is x i s)
-      (ruled i _ (put-turned sd x i (s .slot x i) false h (at-leaf-finite sd x i h q)) (removeS [] p)
-      (sym (ap (λ (j : ℕ). onSlot {C = ⊥} branch hidden hidden (flat s x j)) (mod-eq-of-lt q) ∙ on-flat)))
+      ruled i _ (hide-turned sd zero x i h (λ f. absurd (leaf-ends n s x h f)) (at-leaf-finite sd x i h q)) (removeS [] p)
+      (sym (ap (onSlot {C = ⊥} branch hidden hidden) (tree-leaf s x i q) ∙ on-flat))
     where
       i : ℕ
       i = slotOf 2 [] p
@@ -142,55 +88,14 @@ module _ (n : ℕ) (p : Point) where
     q : i < span (suc l)
     q = slot-lt (branching (suc l)) (below (suc l)) p
 
-    -- what the node below has become: where it is bare it is released
-    shut : (e : s .kid x i ≡ true) (r : St) → Turned n l (8 + s .slot x i) s r (remove (levels l) p (treeAt l s (8 + s .slot x i)))
-        → Goal (shutM (below l) n x i r)
-    unfolding remove removeS kept
-    shut e r a = on-case (bareS (below l) r (8 + r .slot x i)) yes' no'
-      where
-        o : Kept s r x
-        o = own sd l x i h q e a
-
-        b : Turned n (suc l) x s r (changed (span (suc l)) i (λ _. branch (remove (levels l) p (treeAt l s (8 + s .slot x i)))) (treeAt (suc l) s x))
-        b = lift sd l x i h q e a
-
-        on : r .kid x i ≡ true
-        on = sym (o .slots i .kid) ∙ e
-
-        d : Link n r x i
-        d = at-link (a .sound) l x i (b .at) q on
-
-        at : At n r l (8 + r .slot x i)
-        at = subst (λ (c : ℕ). At n r l (8 + c)) (o .slots i .slot) (a .at)
-
-        -- the test is the meaning's
-        test : bareS (below l) r (8 + r .slot x i) ≡ every isHidden (span l) (remove (levels l) p (treeAt l s (8 + s .slot x i)))
-        test =
-            bare-is l r (8 + r .slot x i) (sym (at-wide n r l (8 + r .slot x i) at) ∙ wide-cell (8 + r .slot x i) (omega arith))
-            ∙ ap (every isHidden (span l)) (ap (λ (c : ℕ). treeAt l r (8 + c)) (sym (o .slots i .slot)) ∙ a .grid)
-
-        rule : removeS (levels l) p (treeAt (suc l) s x i) ≡ kept (branching l) (below l) (remove (levels l) p (treeAt l s (8 + s .slot x i)))
-        rule = ap (removeS (levels l) p) (tree-branch l s x i q e)
-
-        no' : bareS (below l) r (8 + r .slot x i) ≡ false → Goal (shutM (below l) n x i r)
-        no' z =
-            subst Goal (sym (rw (lt-ltb (r .slot x i) n (d .inside), z) refl))
-            (ruled i _ b (removeS (levels l) p) (sym (rule ∙ rw (sym test ∙ z) refl)))
-
-        yes' : bareS (below l) r (8 + r .slot x i) ≡ true → Goal (shutM (below l) n x i r)
-        yes' z =
-            let none : Fork r (8 + r .slot x i) → (j : ℕ) → j < 64 → r .kid (8 + r .slot x i) j ≡ false = bare-kids n r l (8 + r .slot x i) at z in
-            subst Goal (sym (rw (lt-ltb (r .slot x i) n (d .inside), z, lt-ltb (r .count) n (prune-room (a .sound) l x i (b .at) q on none)) refl))
-            (ruled i _ (over i _ b (hidden far) (prune-turned (a .sound) l x i (b .at) q on none)) (removeS (levels l) p) (sym (rule ∙ rw (sym test ∙ z) refl)))
-
     up-branch : s .kid x i ≡ true → need (suc l) x s ≤ s .count → Goal (done l x s)
-    unfolding reachS
+    unfolding reachS remove removeS
     up-branch e c =
         let d : Link n s x i = at-link sd l x i h q e in
         let below-it : reachS (branching (suc l)) (below (suc l)) n s x p ≡ reachS (branching l) (below l) n s (8 + s .slot x i) p = rw (e, d .single, lt-ltb (s .slot x i) n (d .inside)) refl in
         subst Goal (sym (do-branch l x s e (d .inside)))
-        (shut e (removeM (branching l) (below l) n p (8 + s .slot x i) s)
-        (ih s (8 + s .slot x i) sd (at-down sd l x i h q e) (subst (λ r. needRemoveR r ≤ s .count) below-it c)))
+        (ruled i _ (shut-turned sd l x i h q e (ih s (8 + s .slot x i) sd (at-down sd l x i h q e) (subst (λ r. needRemoveR r ≤ s .count) below-it c)))
+        (removeS (levels l) p) (sym (ap (removeS (levels l) p) (tree-branch l s x i q e))))
 
     up-hidden : s .kid x i ≡ false → s .val x i ≡ false → Goal (done l x s)
     unfolding remove removeS

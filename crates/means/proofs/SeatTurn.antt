@@ -1,17 +1,16 @@
 -- One seat's tree turned and its mark set: the pool is sound, and every other seat is as it was. One law for every call on a seat. Assumes nothing.
 use mathlib.Core.Path.{_≡_, refl, sym, _∙_, ap, ap₂, subst, fun-ext}
-use mathlib.Core.Bool.{Bool, true, false, cond, _&&_}
-use mathlib.Core.List.{List, [], _∷_}
+use mathlib.Core.Bool.{true}
+use mathlib.Core.List.{[], _∷_}
 use mathlib.Core.Logic.{_⊎_, inl, inr}
-use Prim.Native.Nat.{ℕ, _+_, _<_, _≤_}
-use native.Mathlib.Omega.{arith}
+use Prim.Native.Nat.{ℕ, _<_}
 use lib.Dec.{ltb, eqb}
-use borrow.Author.Tests.{lt-ltb, le-ltb, ltb-true, ltb-false, eqb-true, eqb-false}
+use borrow.Author.Tests.{lt-ltb, ltb-true}
 use Rattle.floats.proofs.Words.{on-case}
 use Rattle.grid.specs.Node.{Node, put}
 use Rattle.grid.proofs.Places.{put-at}
-use Rattle.seats.specs.Seat.{Seat, fresh}
-use Rattle.nodes.specs.State.{St, Free, Held, Stacked, Link, Sound, tree}
+use Rattle.seats.specs.Seat.{Seat}
+use Rattle.nodes.specs.State.{St, Free, Held, Sound, tree}
 use Rattle.nodes.specs.Change.{at1, markS}
 use Rattle.means.specs.Level.{levels, treeAt, Turned}
 use Rattle.means.specs.Mem.{Mem, cellsOf, fits, poolOf, SoundMem, seatOf}

@@ -1,7 +1,8 @@
 -- Sums over the numbers below m. Assumes nothing.
-use mathlib.Core.Path.{_≡_, refl, sym}
+use mathlib.Core.Path.{_≡_, refl, sym, ap}
 use mathlib.Core.Logic.{_≢_}
-use Prim.Native.Nat.{ℕ, zero, suc, _+_, _<_}
+use Prim.Native.Nat.{ℕ, zero, suc, _+_, _<_, _≤_}
+use native.Mathlib.Decide.{ℕ-discrete}
 use native.Mathlib.Omega.{arith}
 use Rattle.grid.specs.Node.{sum}
 use Rattle.grid.proofs.Places.{sum-zero, sum-at, sum-only}
@@ -24,3 +25,14 @@ pub sum-ones : (m : ℕ) → sum m (λ i. 1) ≡ m
 unfolding sum
 sum-ones zero = refl
 sum-ones (suc m) = omega (arith, sum-ones m)
+
+-- over fewer of them
+pub sum-front : (k m : ℕ) (f : ℕ → ℕ) → k ≤ m → sum k f ≤ sum m f
+unfolding sum
+sum-front zero m f h = omega arith
+sum-front (suc k) zero f h = absurd (omega arith)
+sum-front (suc k) (suc m) f h = go (ℕ-discrete k m) (sum-front (suc k) m f)
+  where
+    go : Dec (k ≡ m) → (suc k ≤ m → f k + sum k f ≤ sum m f) → f k + sum k f ≤ f m + sum m f
+    go (yes e) ih = omega (arith, ap (λ (i : ℕ). f i + sum i f) e)
+    go (no ne) ih = omega (arith, ih (omega arith))

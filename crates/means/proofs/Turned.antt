@@ -12,7 +12,7 @@ use Rattle.nodes.specs.Walk.{branching, below}
 use Rattle.means.specs.Level.{levels, span, treeAt, At, In, Same, Kept, Outside, Turned}
 use Rattle.means.proofs.Levels.{span-pos, at-inside, at-live, kept-live, kept-at}
 use Rattle.means.proofs.Slots.{slot-same, slot-branch, tree-round, changed-twice, changed-like, changed-none}
-use Rattle.means.proofs.Frame.{tree-frame, in-frame, Under, under, own-apart, branch-apart, top-apart, in-there}
+use Rattle.means.proofs.Frame.{in-own, tree-frame, in-frame, Under, under, own-apart, branch-apart, top-apart, in-there}
 
 -- ---- what is kept
 pub kept-then : {s r t : St} {y : ℕ} → Kept s r y → Kept r t y → Kept s t y
@@ -52,11 +52,36 @@ module _ {n l x : ℕ} {s r : St} {g : Node (levels l)} (a : Turned n l x s r g)
   pub into : {g' : Node (levels l)} → g ≡ g' → Turned n l x s r g'
   into e = subst (Turned n l x s r) e a
 
--- another top is as it was
+-- ---- a tree that shares no node with the one that is changed
+abbrev pub Apart : ℕ → St → ℕ → ℕ → Type 0
+Apart l s x y = (z : ℕ) → In l s x z → In l s y z → ⊥
+
+module _ {n l y : ℕ} {s r : St} {g : Node (levels l)} (sd : Sound n s) (a : Turned n l y s r g) (x : ℕ) (h : At n s l x) (apart : Apart l s x y) where
+  apart-out : (z : ℕ) → In l s x z → Outside n l s y z
+  apart-out z i = let c : (z < 8 + n) × Live s z = in-there sd l x h z i in record { inside = c .0; live = c .1; out = apart z i }
+
+  apart-same : (z : ℕ) → In l s x z → Same s r z
+  apart-same z i = a .keep z (apart-out z i) .slots
+
+  -- it is as it was, and still shares none
+  pub apart-kept : Kept s r x
+  apart-kept = a .keep x (apart-out x (in-own l s x))
+
+  pub apart-at : At n r l x
+  apart-at = kept-at n l x s r (apart-kept .tag) h
+
+  pub apart-tree : treeAt l s x ≡ treeAt l r x
+  apart-tree = tree-frame l s r x apart-same
+
+  pub apart-still : Apart l r x y
+  apart-still z i = a .within z (apart-out z (in-frame l s r x apart-same z i))
+
+-- another top
+pub tops-apart : {n : ℕ} {s : St} → Sound n s → (t t' : ℕ) → t < 8 → t' < 8 → t ≢ t' → Apart 2 s t t'
+tops-apart sd t t' h h' ne z i j = ne (top-apart sd t t' h h' z i j)
+
 pub others : {n : ℕ} {s r : St} (sd : Sound n s) (t t' : ℕ) → t < 8 → t' < 8 → t' ≢ t → {g : Node (levels 2)} → Turned n 2 t s r g → treeAt 2 s t' ≡ treeAt 2 r t'
-others {n} {s} {r} sd t t' h h' ne a = tree-frame 2 s r t' (λ y i.
-    let c : (y < 8 + n) × Live s y = in-there sd 2 t' (h', refl) y i in
-    a .keep y (record { inside = c .0; live = c .1; out = λ j. ne (top-apart sd t' t h' h y i j) }) .slots)
+others sd t t' h h' ne a = apart-tree sd a t' (h', refl) (tops-apart sd t' t h' h ne)
 
 -- ---- one slot changed
 

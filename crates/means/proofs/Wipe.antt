@@ -23,7 +23,7 @@ use Rattle.means.proofs.Each.{each}
 use Rattle.means.proofs.Drop.{drop-is, drop-turned}
 
 -- a node hidden throughout is bare
-hidden-bare : (l u : ℕ) → every isHidden (span l) (filled l u false) ≡ true
+pub hidden-bare : (l u : ℕ) → every isHidden (span l) (filled l u false) ≡ true
 unfolding isHidden
 hidden-bare l u = every-all isHidden (span l) (filled l u false) (λ _. refl)
 

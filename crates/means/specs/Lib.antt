@@ -4,3 +4,4 @@ pub mod Level
 pub mod Mem
 pub mod Owner
 pub mod Prepared
+pub mod Turn

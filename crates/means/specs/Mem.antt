@@ -4,19 +4,19 @@ use mathlib.Core.Bool.{Bool, true, false, _&&_, _||_, cond}
 use mathlib.Core.List.{List, [], _∷_}
 use mathlib.Core.Logic.{_⊎_}
 use mathlib.Core.Option.{Option}
-use Prim.Native.Nat.{ℕ, _+_, _-_, _*_, _/_}
+use Prim.Native.Nat.{ℕ, _-_, _/_}
 use lib.ListN.{length, getD}
 use lib.Dec.{ltb, leb, eqb}
 use Rattle.floats.specs.Value.{isFinite}
 use Rattle.bitset.specs.Set.{every}
-use Rattle.grid.specs.Geometry.{Point, below128}
+use Rattle.grid.specs.Geometry.{Point}
 use Rattle.grid.specs.Whole.{hasHollow, isEmpty}
 use Rattle.seats.specs.Call.{Call, One, Two, Prepare, Count, Lookup, Sign, Remove, Insert, Fill, Cut, Clear, Prune, Flip, FillSigns, IsEmpty, Copy, Combine}
 use Rattle.seats.specs.Refusal.{Reads}
 use Rattle.seats.specs.Seat.{Seat, State, fresh, reached}
 use Rattle.nodes.specs.State as state
 use Rattle.nodes.specs.State.{St, tree}
-use Rattle.nodes.specs.Layout.{st}
+use Rattle.nodes.specs.Layout.{st, tops, slotsLength, masksLength, bookLength}
 use Rattle.nodes.specs.Walk.{Reach, active, hidden, broken, reachS, needInsertR, needRemoveR}
 use Rattle.nodes.specs.Test.{soundB}
 use Rattle.means.specs.Ends.{shown, signed}
@@ -33,17 +33,17 @@ lensOf m = length (m .slots) ∷ length (m .masks) ∷ length (m .book) ∷ []
 -- the cells that so many slots are for
 abbrev pub sizeOf : List ℕ → ℕ
 sizeOf [] = 0
-sizeOf (n ∷ ns) = (n - 4096) / 64
+sizeOf (n ∷ ns) = (n - tops) / 64
 
 abbrev pub cellsOf : Mem → ℕ
-cellsOf m = (length (m .slots) - 4096) / 64
+cellsOf m = (length (m .slots) - tops) / 64
 
 -- refusal 1: the "lent lengths .. belong together for one cell count from 1 to 65,535"
 unfoldable pub fits : Mem → Bool
 fits m =
     let n = cellsOf m in
     ltb 0 n
-    && (ltb n 65536 && (eqb (length (m .slots)) (4096 + 64 * n) && (eqb (length (m .masks)) (128 + 2 * n) && eqb (length (m .book)) (9 + 2 * n))))
+    && (ltb n 65536 && (eqb (length (m .slots)) (slotsLength n) && (eqb (length (m .masks)) (masksLength n) && eqb (length (m .book)) (bookLength n))))
 
 -- the pool that it holds
 unfoldable pub poolOf : Mem → St

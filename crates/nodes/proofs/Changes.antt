@@ -3,24 +3,23 @@ use mathlib.Core.Path.{_≡_, refl, sym, ap, _∙_, subst}
 use mathlib.Core.Logic.{_⊎_, inl, inr}
 use mathlib.Core.Bool.{Bool, true, false, cond, _&&_}
 use mathlib.Core.List.{List}
-use Prim.Native.Nat.{ℕ, _+_, _-_, _*_, _/_, _%_, _<_, _≤_}
+use Prim.Native.Nat.{ℕ, _+_, _-_, _*_, _/_, _<_, _≤_}
 use native.Mathlib.Omega.{arith}
 use lib.ListN.{length, getD, set, length-set}
 use lib.Seq.{getD-set-same, getD-set-other}
-use lib.Dec.{ltb, leb, eqb}
+use lib.Dec.{eqb}
 use borrow.Author.Count.{below-none, below-more}
-use borrow.Author.Tests.{lt-ltb, le-ltb, le-leb, lt-leb, eq-eqb, ne-eqb, ltb-true, ltb-false, leb-true}
+use borrow.Author.Tests.{lt-ltb, le-ltb, eq-eqb, ne-eqb}
 use Rattle.bitset.specs.Set.{bitOf, wordBit}
 use Rattle.bitset.proofs.Digits.{lt-or-le, is-or-not}
 use Rattle.bitset.proofs.Words.{zero-bit, ones-bit}
 use Rattle.bitset.proofs.Sets.{bit-set}
 use Rattle.floats.specs.Value.{far}
 use Rattle.nodes.specs.State.{St}
-use Rattle.nodes.specs.Layout.{st, part, wordOf, kidBit, valBit, countPlace, stackPlace, tagPlace}
-use Rattle.nodes.specs.Change.{at1, at2, inCell, putS, attachS, releaseS, markS, next}
+use Rattle.nodes.specs.Layout.{st, wordOf, kidBit, valBit}
+use Rattle.nodes.specs.Change.{at2, inCell, putS, attachS, releaseS, next}
 use Rattle.nodes.specs.Steps.{slotS, cellS, takeS, giveS, roomS}
-use Rattle.nodes.specs.Walk.{readyS}
-use Rattle.nodes.specs.Range.{In, Cells, Booked}
+use Rattle.nodes.specs.Range.{In, Cells}
 use Rattle.nodes.proofs.Places.{spread, spread-same, spread-one, spread-cell, word-lt}
 
 -- ---- two states are the same where each field is

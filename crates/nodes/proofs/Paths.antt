@@ -1,9 +1,9 @@
 -- The walk, by the level's number as the code goes it: what a slot is, and where the walk ends. Assumes nothing.
 use mathlib.Core.Path.{_≡_, refl, sym, ap, _∙_, subst}
 use mathlib.Core.Bool.{Bool, true, false, cond}
-use mathlib.Core.List.{List, [], _∷_}
+use mathlib.Core.List.{List, []}
 use mathlib.Core.Logic.{inl, inr}
-use Prim.Native.Nat.{ℕ, zero, suc, _+_, _-_, _*_, _<_, _≤_}
+use Prim.Native.Nat.{ℕ, zero, suc, _+_, _-_, _<_, _≤_}
 use native.Mathlib.Omega.{arith}
 use lib.ListN.{length, getD}
 use lib.Dec.{ltb}
@@ -15,7 +15,7 @@ use Rattle.floats.specs.Value.{value, isFinite, equal}
 use Rattle.grid.specs.Geometry.{Point, slotOf}
 use Rattle.grid.specs.Node.{size}
 use Rattle.grid.proofs.Geometry.{slot-lt}
-use Rattle.nodes.specs.State.{St, wide}
+use Rattle.nodes.specs.State.{St}
 use Rattle.nodes.specs.Layout.{st, wordOf, kidBit, valBit}
 use Rattle.nodes.specs.Walk.{branching, below, closedS, viewS, Reach, active, hidden, broken, reachAt, reachS, floated, needInsertR, needRemoveR}
 use Rattle.nodes.specs.Ends.{reachOf, needInsertE, needRemoveE}

@@ -1,14 +1,14 @@
 -- From places in lent memory to slots of nodes: wordOf gives each slot of a pool a place of its own, so that what happens at places happens at slots. Assumes nothing.
-use mathlib.Core.Path.{_≡_, refl, sym, ap, _∙_, subst}
-use mathlib.Core.Logic.{_⊎_, inl, inr}
+use mathlib.Core.Path.{_≡_, refl, sym, _∙_, subst}
+use mathlib.Core.Logic.{inl, inr}
 use mathlib.Core.Bool.{Bool, true, false, cond, _&&_}
-use Prim.Native.Nat.{ℕ, _+_, _-_, _*_, _/_, _%_, _<_, _≤_}
+use Prim.Native.Nat.{ℕ, _+_, _-_, _*_, _/_, _<_, _≤_}
 use native.Mathlib.Omega.{arith}
 use lib.Dec.{ltb, eqb}
-use borrow.Author.Tests.{lt-ltb, le-ltb, eq-eqb, ne-eqb, ltb-true}
+use borrow.Author.Tests.{lt-ltb, le-ltb, eq-eqb, ne-eqb}
 use Rattle.bitset.proofs.Digits.{lt-or-le, is-or-not}
 use Rattle.nodes.specs.State.{wide}
-use Rattle.nodes.specs.Layout.{wordOf, inside}
+use Rattle.nodes.specs.Layout.{wordOf, inside, slotsLength}
 use Rattle.nodes.specs.Change.{at2, inCell}
 use Rattle.nodes.specs.Range.{In, Placed}
 
@@ -33,14 +33,14 @@ wide-most x = elim (lt-or-le x 8) [
   | inr h ↦ omega (arith, wide-cell x h)
 ]
 
-pub word-lt : {n x k : ℕ} → In n x k → wordOf x k < 4096 + 64 * n
+pub word-lt : {n x k : ℕ} → In n x k → wordOf x k < slotsLength n
 word-lt {n} {x} {k} i = elim (lt-or-le x 8) [
   | inl h ↦ omega (arith, i .slot, wide-top x h, word-top x k h)
   | inr h ↦ omega (arith, i .node, i .slot, wide-cell x h, word-cell x k h)
 ]
 
 -- the place of a slot can be reckoned, and lies below any end that is past the pool's words
-pub placed : {n x k : ℕ} → n < 65536 → In n x k → (m : ℕ) → 4096 + 64 * n ≤ m → Placed x k m
+pub placed : {n x k : ℕ} → n < 65536 → In n x k → (m : ℕ) → slotsLength n ≤ m → Placed x k m
 placed {n} {x} {k} h i m l =
     record { node = omega (arith, i .node); slot = omega (arith, i .slot, wide-most x); below = omega (arith, word-lt i) }
 
@@ -126,11 +126,11 @@ module _ {A : Type 0} (n : ℕ) (d : A) where
   ]
 
   module _ (f f' : ℕ → A) where
-    pub spread-same : ((i : ℕ) → i < 4096 + 64 * n → f' i ≡ f i) → (y j : ℕ) → spread f' y j ≡ spread f y j
+    pub spread-same : ((i : ℕ) → i < slotsLength n → f' i ≡ f i) → (y j : ℕ) → spread f' y j ≡ spread f y j
     spread-same h = spread-by f' (spread f) (λ y j i. h (wordOf y j) (word-lt i) ∙ sym (spread-in f i)) (λ y j o. sym (spread-out f o))
 
     -- one place is given a
-    pub spread-one : (x k : ℕ) (a : A) → In n x k → ((i : ℕ) → i < 4096 + 64 * n → f' i ≡ cond (eqb i (wordOf x k)) a (f i)) → (y j : ℕ) → spread f' y j ≡ at2 (spread f) x k a y j
+    pub spread-one : (x k : ℕ) (a : A) → In n x k → ((i : ℕ) → i < slotsLength n → f' i ≡ cond (eqb i (wordOf x k)) a (f i)) → (y j : ℕ) → spread f' y j ≡ at2 (spread f) x k a y j
     spread-one x k a ix h = spread-by f' (at2 (spread f) x k a)
         (λ y j i. h (wordOf y j) (word-lt i) ∙ elim (pair-test y x j k) [
           | yes-is t e ↦ rw (t, eq-eqb (wordOf y j) (wordOf x k) (λ z. wordOf (e .0 z) (e .1 z))) refl
@@ -142,7 +142,7 @@ module _ {A : Type 0} (n : ℕ) (d : A) where
         ])
 
     -- the 64 places of cell c are given a
-    pub spread-cell : (c : ℕ) (a : A) → c < n → ((i : ℕ) → i < 4096 + 64 * n → f' i ≡ cond (eqb (i / 64) (64 + c)) a (f i)) → (y j : ℕ) → spread f' y j ≡ inCell (spread f) c a y j
+    pub spread-cell : (c : ℕ) (a : A) → c < n → ((i : ℕ) → i < slotsLength n → f' i ≡ cond (eqb (i / 64) (64 + c)) a (f i)) → (y j : ℕ) → spread f' y j ≡ inCell (spread f) c a y j
     spread-cell c a hc h = spread-by f' (inCell (spread f) c a)
         (λ y j i. h (wordOf y j) (word-lt i) ∙ elim (cell-test y c j) [
           | yes-is t e ↦ rw (t, eq-eqb (wordOf y j / 64) (64 + c) (word-group c y j (i .slot) .1 (e .0))) refl

@@ -1,14 +1,13 @@
 -- What lent memory holds, as the state: each field at a slot by the place of its word or bit. Assumes nothing.
-use mathlib.Core.Path.{_≡_, refl, sym, ap, _∙_, subst}
-use mathlib.Core.Bool.{Bool, true, false}
+use mathlib.Core.Path.{_≡_, refl, sym, _∙_}
+use mathlib.Core.Bool.{Bool, false}
 use mathlib.Core.List.{List}
-use Prim.Native.Nat.{ℕ, _+_, _*_, _<_, _≤_}
+use Prim.Native.Nat.{ℕ, _+_, _*_}
 use native.Mathlib.Omega.{arith}
 use lib.ListN.{length, getD}
 use Rattle.bitset.specs.Set.{bitOf}
-use Rattle.nodes.specs.State.{St}
 use Rattle.nodes.specs.Layout.{Sized, st, wordOf, kidBit, valBit, countPlace}
-use Rattle.nodes.specs.Range.{In, Placed, Cells, Booked}
+use Rattle.nodes.specs.Range.{In, Placed, Cells, Masked, Booked}
 use Rattle.nodes.proofs.Places.{spread-in, placed}
 
 module _ (slots masks book : List ℕ) {n x k : ℕ} (i : In n x k) where
@@ -52,5 +51,5 @@ module _ {slots masks : List ℕ} {n x k : ℕ} (z : Cells n slots masks) (i : I
   pub kid-may : Placed x k (64 * length masks)
   kid-may = placed (z .most) i (64 * length masks) (omega (arith, z .masks-fit))
 
-  pub val-may : (n < 65536) × (length masks ≡ 128 + 2 * n) × Placed x k (64 * (64 + n))
-  val-may = (z .most, z .masks-fit, placed (z .most) i (64 * (64 + n)) (omega arith))
+  pub val-may : (Masked n masks) × Placed x k (64 * (64 + n))
+  val-may = (record { most = z .most; masks-fit = z .masks-fit }, placed (z .most) i (64 * (64 + n)) (omega arith))

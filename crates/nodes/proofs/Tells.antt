@@ -12,7 +12,7 @@ use Rattle.bitset.proofs.Digits.{lt-or-le}
 use Rattle.bitset.proofs.Sets.{bit-past}
 use Rattle.bitset.proofs.Ext.{words-ext}
 use Rattle.nodes.specs.State.{St}
-use Rattle.nodes.specs.Layout.{Sized, st, part, wordOf}
+use Rattle.nodes.specs.Layout.{Sized, st, part, wordOf, countPlace, head, tops, slotsLength, masksLength}
 use Rattle.nodes.specs.Range.{In}
 use Rattle.nodes.proofs.Places.{wide-top, wide-cell, word-top, word-cell, spread, spread-in}
 use Rattle.nodes.proofs.Books.{part-at}
@@ -24,8 +24,8 @@ record Sits (n i : ℕ) : Type 0 where
   pub within : In n x k
   pub there : wordOf x k ≡ i
 
-sits : (n i : ℕ) → i < 4096 + 64 * n → Sits n i
-sits n i h = elim (lt-or-le i 4096) [
+sits : (n i : ℕ) → i < slotsLength n → Sits n i
+sits n i h = elim (lt-or-le i tops) [
   | inl l ↦
       let q : i / 512 < 8 = omega arith in
       record { x = i / 512; k = i % 512; within = record { node = omega arith; slot = omega (arith, wide-top (i / 512) q) }; there = word-top (i / 512) (i % 512) q ∙ omega arith }
@@ -39,7 +39,7 @@ sits n i h = elim (lt-or-le i 4096) [
       }
 ]
 
-spread-tells : {A : Type 0} (n : ℕ) (d : A) (f f' : ℕ → A) → ((x k : ℕ) → spread n d f x k ≡ spread n d f' x k) → (i : ℕ) → i < 4096 + 64 * n → f i ≡ f' i
+spread-tells : {A : Type 0} (n : ℕ) (d : A) (f f' : ℕ → A) → ((x k : ℕ) → spread n d f x k ≡ spread n d f' x k) → (i : ℕ) → i < slotsLength n → f i ≡ f' i
 spread-tells n d f f' h i l =
     let s : Sits n i = sits n i l in
     ap f (sym (s .there)) ∙ sym (spread-in n d f (s .within)) ∙ h (s .x) (s .k) ∙ spread-in n d f' (s .within) ∙ ap f' (s .there)
@@ -60,7 +60,7 @@ module _ (n : ℕ) (sl mk bk sl' mk' bk' : List ℕ) (z : Sized n sl mk bk) (z' 
   unfolding st
   bits-told j = elim (lt-or-le j (64 * (64 + n))) [
     | inl l ↦ spread-tells n false (bitOf mk) (bitOf mk') (λ x k. ap (λ (s : St). s .kid x k) e) j (omega arith)
-    | inr l ↦ elim (lt-or-le j (64 * (128 + 2 * n))) [
+    | inr l ↦ elim (lt-or-le j (64 * masksLength n)) [
       | inl m ↦
           let i = j - 64 * (64 + n) in
           let q : 64 * (64 + n) + i ≡ j = omega arith in
@@ -76,15 +76,15 @@ module _ (n : ℕ) (sl mk bk sl' mk' bk' : List ℕ) (z : Sized n sl mk bk) (z' 
 
   pub book-told : bk ≡ bk'
   unfolding st
-  book-told = ext-getD 0 bk bk' (z .book-fit ∙ sym (z' .book-fit)) (λ i l. elim (lt-or-le i 8) [
+  book-told = ext-getD 0 bk bk' (z .book-fit ∙ sym (z' .book-fit)) (λ i l. elim (lt-or-le i countPlace) [
     | inl a ↦ part-tells 0 8 bk bk' (λ t. ap (λ (s : St). s .mark t) e) i (omega arith) (omega arith)
-    | inr a ↦ elim (lt-or-le i 9) [
+    | inr a ↦ elim (lt-or-le i head) [
       | inl b ↦
-          let q : i ≡ 8 = omega arith in
+          let q : i ≡ countPlace = omega arith in
           ap (λ (j : ℕ). getD bk j 0) q ∙ ap (λ (s : St). s .count) e ∙ ap (λ (j : ℕ). getD bk' j 0) (sym q)
-      | inr b ↦ elim (lt-or-le i (9 + n)) [
-        | inl d ↦ part-tells 9 n bk bk' (λ t. ap (λ (s : St). s .tag t) e) i b d
-        | inr d ↦ part-tells (9 + n) n bk bk' (λ t. ap (λ (s : St). s .stack t) e) i d (omega (arith, z .book-fit))
+      | inr b ↦ elim (lt-or-le i (head + n)) [
+        | inl d ↦ part-tells head n bk bk' (λ t. ap (λ (s : St). s .tag t) e) i b d
+        | inr d ↦ part-tells (head + n) n bk bk' (λ t. ap (λ (s : St). s .stack t) e) i d (omega (arith, z .book-fit))
       ]
     ]
   ])

@@ -1,15 +1,15 @@
 -- The slot of a voxel's number at each level, and the low 7 bits of a signed coordinate. Assumes nothing.
-use mathlib.Core.Path.{_≡_, refl, sym, ap, _∙_, subst}
-use mathlib.Core.List.{List, [], _∷_}
-use Prim.Native.Nat.{ℕ, zero, suc, _+_, _-_, _*_, _/_, _%_, _^_, _<_, _≤_}
+use mathlib.Core.Path.{_≡_, sym, subst}
+use mathlib.Core.List.{[], _∷_}
+use Prim.Native.Nat.{ℕ, suc, _+_, _-_, _*_, _/_, _%_}
 use native.Mathlib.Omega.{arith}
 use borrow.Author.Tests.{le-ltb}
 use lib.Dec.{T}
 use lib.IntN.{ℤ, pos, negsuc, _+ℤ_, natAbs}
-use lib.Signed.{mag, nonNeg}
+use lib.Signed.{nonNeg}
 use mir.Syntax.{w32, w64}
 use mir.Val.{SFits, Fits}
-use Rattle.grid.specs.Geometry.{Point, masked, total, part, slotOf}
+use Rattle.grid.specs.Geometry.{masked, total, part, slotOf}
 use Rattle.nodes.specs.Walk.{branching, below, pointOf}
 
 -- ---- the three levels, by the digits of the voxel's number

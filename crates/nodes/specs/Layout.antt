@@ -1,6 +1,7 @@
--- Where lent memory holds a pool of n cells: three slices. The places are defined here; contracts cite these names, and bodies have the numbers. Assumes nothing.
+-- Where lent memory holds a pool of n cells: three slices. The places and lengths are defined here, and contracts cite these names; bodies have the constants of
+-- src/memory.rt. Assumes nothing.
 use mathlib.Core.Path.{_≡_}
-use mathlib.Core.Bool.{Bool, true, false, cond, _&&_}
+use mathlib.Core.Bool.{Bool, false, cond, _&&_}
 use mathlib.Core.List.{List}
 use Prim.Native.Nat.{ℕ, _+_, _*_, _<_}
 use lib.ListN.{length, getD}
@@ -19,15 +20,31 @@ kidBit x k = wordOf x k
 abbrev pub valBit : ℕ → ℕ → ℕ → ℕ
 valBit n x k = 64 * (64 + n) + wordOf x k
 
--- the book: eight filled marks, the count of free cells, n use marks, the stack of n places
+-- the book: eight filled marks and the count of free cells are its head, and n use marks and the stack of n places follow
 abbrev pub countPlace : ℕ
 countPlace = 8
 
+abbrev pub head : ℕ
+head = 9
+
 abbrev pub tagPlace : ℕ → ℕ
-tagPlace c = 9 + c
+tagPlace c = head + c
 
 abbrev pub stackPlace : ℕ → ℕ → ℕ
-stackPlace n i = 9 + n + i
+stackPlace n i = head + n + i
+
+-- the words of the eight tops; the lengths of the slices
+abbrev pub tops : ℕ
+tops = 4096
+
+abbrev pub slotsLength : ℕ → ℕ
+slotsLength n = tops + 64 * n
+
+abbrev pub masksLength : ℕ → ℕ
+masksLength n = 128 + 2 * n
+
+abbrev pub bookLength : ℕ → ℕ
+bookLength n = head + 2 * n
 
 -- slot k of node x is one of a pool of n cells
 abbrev pub inside : ℕ → ℕ → ℕ → Bool
@@ -40,9 +57,9 @@ part lo len l i = cond (ltb i len) (getD l (lo + i) 0) 0
 -- the lengths belong together for n cells
 pub record Sized (n : ℕ) (slots masks book : List ℕ) : Type 0 where
   pub most : n < 65536
-  pub slots-fit : length slots ≡ 4096 + 64 * n
-  pub masks-fit : length masks ≡ 128 + 2 * n
-  pub book-fit : length book ≡ 9 + 2 * n
+  pub slots-fit : length slots ≡ slotsLength n
+  pub masks-fit : length masks ≡ masksLength n
+  pub book-fit : length book ≡ bookLength n
 
 -- the pool that the slices hold
 unfoldable pub st : ℕ → List ℕ → List ℕ → List ℕ → St
@@ -52,7 +69,7 @@ st n slots masks book =
       kid = λ x k. cond (inside n x k) (bitOf masks (kidBit x k)) false;
       val = λ x k. cond (inside n x k) (bitOf masks (valBit n x k)) false;
       count = getD book countPlace 0;
-      stack = part (9 + n) n book;
-      tag = part 9 n book;
+      stack = part (head + n) n book;
+      tag = part head n book;
       mark = part 0 8 book;
     }

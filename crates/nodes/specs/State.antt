@@ -5,9 +5,9 @@ use mathlib.Core.Bool.{Bool, true, false, cond}
 use mathlib.Core.List.{List, [], _∷_}
 use mathlib.Core.Logic.{_⊎_}
 use Prim.Native.Nat.{ℕ, _+_, _-_, _*_, _%_, _<_, _≤_}
-use lib.Dec.{ltb, eqb}
+use lib.Dec.{ltb}
 use Rattle.floats.specs.Value.{isFinite}
-use Rattle.grid.specs.Node.{Slot, branch, tile, hidden, Node, SlotOf, size}
+use Rattle.grid.specs.Node.{Slot, branch, tile, hidden, Node, size}
 
 pub record St : Type 0 where
   -- slot k of node x: its word, a value or a cell number as the masks say; its bit in the child mask and in the value mask

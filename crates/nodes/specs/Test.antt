@@ -1,7 +1,6 @@
 -- The test that a pool is sound, place by place: each cell, each place of the stack and each slot is looked at once. Assumes nothing.
-use mathlib.Core.Path.{_≡_}
-use mathlib.Core.Bool.{Bool, true, false, not, cond, _&&_}
-use Prim.Native.Nat.{ℕ, _+_, _-_, _*_, _/_, _%_}
+use mathlib.Core.Bool.{Bool, true, not, cond, _&&_}
+use Prim.Native.Nat.{ℕ, _+_, _-_, _/_, _%_}
 use lib.Dec.{ltb, leb, eqb}
 use Rattle.floats.specs.Value.{isFinite}
 use Rattle.bitset.specs.Set.{every}

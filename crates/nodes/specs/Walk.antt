@@ -2,11 +2,10 @@
 -- Assumes nothing.
 use mathlib.Core.Bool.{Bool, true, false, not, cond, _&&_, _||_}
 use mathlib.Core.List.{List, [], _∷_}
-use Prim.Native.Nat.{ℕ, zero, suc, _+_, _-_, _*_, _/_, _%_}
+use Prim.Native.Nat.{ℕ, zero, suc, _+_, _*_, _/_, _%_}
 use lib.IntN.{ℤ, pos}
 use lib.ListN.{length}
-use lib.Dec.{ltb, leb, eqb}
-use lib.Ieee.{Float, eq}
+use lib.Dec.{ltb, leb}
 use Rattle.floats.specs.Value.{value, isFinite, equal, far}
 use Rattle.grid.specs.Geometry.{Point, masked, slotOf}
 use Rattle.nodes.specs.State.{St}
@@ -16,7 +15,7 @@ use Rattle.nodes.specs.declared.walk.Slot.the-variants as slot
 use Rattle.nodes.specs.declared.walk.Ends.{Ends}
 use Rattle.nodes.specs.declared.walk.Ends.the-variants.{Active, Hidden, Broken}
 
--- ---- the levels of the grid of 128: 2 is a top, 1 a middle node, 0 a leaf
+-- ---- the table of levels of the grid of 128, "top 3, middle 2, leaf 2": 2 is a top, 1 a middle node, 0 a leaf
 
 abbrev pub branching : ℕ → ℕ
 branching zero = 2
@@ -29,8 +28,15 @@ below (suc l) = branching l ∷ below l
 
 -- ---- the code passes a voxel by its number, x * 2 ^ 14 + y * 2 ^ 7 + z, with coordinates masked to 7 bits
 
+-- the voxels of a grid, 2 ^ 21
+abbrev pub voxels : ℕ
+voxels = 2097152
+
 abbrev pub voxelAt : ℤ → ℤ → ℤ → ℕ
 voxelAt x y z = masked 7 x * 16384 + masked 7 y * 128 + masked 7 z
+
+abbrev pub voxelOf : Point → ℕ
+voxelOf p = voxelAt (p .x) (p .y) (p .z)
 
 abbrev pub pointOf : ℕ → Point
 pointOf v = record { x = pos (v / 16384); y = pos (v / 128 % 128); z = pos (v % 128) }

@@ -1,16 +1,23 @@
 // The changes that every call on a pool is made of: a slot is given a word, a branch is added.
+use super::geometry::Top;
 use super::memory;
+use super::memory::BOTH_TOP_MASKS;
+use super::memory::CELL;
+use super::memory::COUNT;
+use super::memory::HEAD;
+use super::memory::TOP_MASKS;
+use super::memory::TOPS;
+use super::memory::USED;
 ghost use mathlib.Core.Path.{_≡_};
 ghost use mathlib.Core.Bool.{true, false, cond};
 ghost use mathlib.Core.List.{List};
-ghost use Prim.Native.Nat.{ℕ, _+_, _-_, _*_, _/_, _<_, _≤_};
-ghost use lib.ListN.{length, getD, set};
+ghost use Prim.Native.Nat.{ℕ, _+_, _-_, _/_, _<_, _≤_};
+ghost use lib.ListN.{length, getD};
 ghost use lib.Dec.{eqb};
 ghost use Rattle.bitset.specs.Set.{bitOf};
-ghost use Rattle.nodes.specs.State.{linked};
-ghost use Rattle.nodes.specs.Layout.{Sized, st, countPlace, stackPlace, tagPlace};
+ghost use Rattle.nodes.specs.Layout.{Sized, st, countPlace, stackPlace, tagPlace, slotsLength};
 ghost use Rattle.nodes.specs.Change.{putS, attachS, releaseS, markS, next};
-ghost use Rattle.nodes.specs.Range.{In, Cells, Booked};
+ghost use Rattle.nodes.specs.Range.{In, Cells, Masked, Booked};
 ghost use Rattle.nodes.specs.Steps.{slotS, cellS, takeS, giveS, Spare, roomS};
 ghost use Rattle.nodes.specs.Walk.{readyS};
 
@@ -44,12 +51,12 @@ pub fn set_slot(
 
 // The 64 words of cell c.
 fn fill(slots: &mut [u32], c: usize, w: u32)
-    requires { ⌜ (c < 65536) × (4096 + 64 * c + 64 ≤ length (now slots)) ⌝ }
+    requires { ⌜ (c < 65536) × (slotsLength (c + 1) ≤ length (now slots)) ⌝ }
     ensures { λ _. ⌜ ((i : ℕ) → getD (now (slots .exit)) i 0 ≡ cond (eqb (i / 64) (64 + c)) w (getD (now (slots .entry)) i 0)) ⌝ }
 {
-    let base = 4096 + 64 * c;
+    let base = TOPS + CELL * c;
     let mut i = 0;
-    while i < 64 {
+    while i < CELL {
         slots[base + i] = w;
         i += 1;
     }
@@ -64,12 +71,12 @@ fn whole_word(on: bool) -> u64
 
 // The masks of cell c: no child, and all values on or off.
 fn paint(masks: &mut [u64], n: usize, c: usize, on: bool)
-    requires { ⌜ (n < 65536) × (length (now masks) ≡ 128 + 2 * n) × (c < n) ⌝ }
+    requires { ⌜ (Masked n (now masks)) × (c < n) ⌝ }
     ensures { λ _. ⌜ ((j : ℕ) → bitOf (now (masks .exit)) j ≡ cond (eqb (j / 64) (128 + n + c)) on (cond (eqb (j / 64) (64 + c)) false (bitOf (now (masks .entry)) j))) ⌝ }
 {
     let values = whole_word(on);
-    masks[64 + c] = 0;
-    masks[128 + n + c] = values;
+    masks[TOP_MASKS + c] = 0;
+    masks[BOTH_TOP_MASKS + n + c] = values;
 }
 
 // The slots of cell c all hold w, active or hidden.
@@ -86,7 +93,7 @@ pub fn count(book: &[u32]) -> usize
     requires { ⌜ countPlace < length (now book) ⌝ }
     ensures { λ r. ⌜ r ≡ getD (now (book .entry)) countPlace 0 ⌝ }
 {
-    book[8] as usize
+    book[COUNT] as usize
 }
 
 // Place i of the stack of free cells.
@@ -94,7 +101,15 @@ pub fn stacked(book: &[u32], n: usize, i: usize) -> usize
     requires { ⌜ (Booked n (now book)) × (i < n) ⌝ }
     ensures { λ r. ⌜ r ≡ getD (now (book .entry)) (stackPlace n i) 0 ⌝ }
 {
-    book[9 + n + i] as usize
+    book[HEAD + n + i] as usize
+}
+
+// The use mark of cell c.
+pub fn tag(book: &[u32], c: usize) -> usize
+    requires { ⌜ tagPlace c < length (now book) ⌝ }
+    ensures { λ r. ⌜ r ≡ getD (now (book .entry)) (tagPlace c) 0 ⌝ }
+{
+    book[HEAD + c] as usize
 }
 
 // The next free cell can be had.
@@ -119,8 +134,8 @@ fn take(book: &mut [u32], n: usize, x: usize, k: usize) -> usize
 {
     let last = count(book) - 1;
     let c = stacked(book, n, last);
-    book[8] = last as u32;
-    book[9 + c] = (65536 + (512 * x + k)) as u32;
+    book[COUNT] = last as u32;
+    book[HEAD + c] = (USED + (Top::SIZE * x + k)) as u32;
     c
 }
 
@@ -151,9 +166,9 @@ fn give(book: &mut [u32], n: usize, c: usize)
     ensures { λ _. ⌜ ((slots masks : List ℕ) → st n slots masks (now (book .exit)) ≡ giveS c (st n slots masks (now (book .entry)))) ⌝ }
 {
     let free = count(book);
-    book[9 + n + free] = c as u32;
-    book[9 + c] = free as u32;
-    book[8] = (free + 1) as u32;
+    book[HEAD + n + free] = c as u32;
+    book[HEAD + c] = free as u32;
+    book[COUNT] = (free + 1) as u32;
 }
 
 // The cell below slot k of node x is free again, and the slot is hidden with +far. Nothing is done where the link leaves the pool, or the stack is full.

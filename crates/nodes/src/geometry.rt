@@ -4,8 +4,9 @@ ghost use mathlib.Core.List.{[], _∷_};
 ghost use Prim.Native.Nat.{_<_, _≤_};
 ghost use Rattle.grid.specs.Geometry.{masked, slotOf};
 ghost use Rattle.grid.specs.Node.{size};
-ghost use Rattle.nodes.specs.Walk.{branching, below, pointOf, voxelAt};
+ghost use Rattle.nodes.specs.Walk.{branching, below, pointOf, voxelAt, voxels};
 
+// A level's constants are made of the branchings. `size_in` and `voxel` hold them to the meaning: each size is proved, and the total of the top.
 pub struct Top;
 
 pub struct Middle;
@@ -15,9 +16,9 @@ pub struct Leaf;
 impl Top {
     pub const BRANCHING: usize = 3;
 
-    pub const SIZE: usize = 512;
+    pub const SIZE: usize = 1 << (3 * Self::BRANCHING);
 
-    pub const BRANCHING_TOTAL: usize = 7;
+    pub const BRANCHING_TOTAL: usize = Self::BRANCHING + Middle::BRANCHING_TOTAL;
 
     pub fn slot(v: usize) -> usize
         ensures { λ r. ⌜ (r ≡ slotOf 3 (2 ∷ 2 ∷ []) (pointOf v)) × (r < 512) ⌝ }
@@ -29,9 +30,9 @@ impl Top {
 impl Middle {
     pub const BRANCHING: usize = 2;
 
-    pub const SIZE: usize = 64;
+    pub const SIZE: usize = 1 << (3 * Self::BRANCHING);
 
-    pub const BRANCHING_TOTAL: usize = 4;
+    pub const BRANCHING_TOTAL: usize = Self::BRANCHING + Leaf::BRANCHING_TOTAL;
 
     pub fn slot(v: usize) -> usize
         ensures { λ r. ⌜ (r ≡ slotOf 2 (2 ∷ []) (pointOf v)) × (r < 64) ⌝ }
@@ -43,9 +44,9 @@ impl Middle {
 impl Leaf {
     pub const BRANCHING: usize = 2;
 
-    pub const SIZE: usize = 64;
+    pub const SIZE: usize = 1 << (3 * Self::BRANCHING);
 
-    pub const BRANCHING_TOTAL: usize = 2;
+    pub const BRANCHING_TOTAL: usize = Self::BRANCHING;
 
     pub fn slot(v: usize) -> usize
         ensures { λ r. ⌜ (r ≡ slotOf 2 [] (pointOf v)) × (r < 64) ⌝ }
@@ -90,9 +91,14 @@ fn masked7(x: i32) -> usize
     ((y as u64) % 128) as usize
 }
 
+// The voxels along a side of a grid, and in a layer.
+const SIDE: usize = 1 << Top::BRANCHING_TOTAL;
+
+const LAYER: usize = SIDE * SIDE;
+
 // The number of the voxel at a point.
 pub fn voxel(x: i32, y: i32, z: i32) -> usize
-    ensures { λ r. ⌜ r ≡ voxelAt x y z ⌝ }
+    ensures { λ r. ⌜ (r ≡ voxelAt x y z) × (r < voxels) ⌝ }
 {
-    masked7(x) * 16384 + masked7(y) * 128 + masked7(z)
+    masked7(x) * LAYER + masked7(y) * SIDE + masked7(z)
 }

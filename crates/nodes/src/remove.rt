@@ -2,6 +2,8 @@
 use super::cells;
 use super::geometry;
 use super::memory;
+use super::memory::BOTH_TOP_MASKS;
+use super::memory::TOP_MASKS;
 use super::walk;
 use super::walk::Below;
 use super::walk::Slot;
@@ -13,14 +15,14 @@ ghost use lib.ListN.{length};
 ghost use Rattle.bitset.specs.Set.{bitOf, every};
 ghost use Rattle.nodes.specs.Change.{hideS};
 ghost use Rattle.nodes.specs.Layout.{Sized, st};
-ghost use Rattle.nodes.specs.Range.{In, Stands};
+ghost use Rattle.nodes.specs.Range.{In, Masked, Stands};
 ghost use Rattle.nodes.specs.Remove.{bareS, shutM, removeM};
 ghost use Rattle.nodes.specs.Split.{goOnR, splitR, splitS};
 ghost use Rattle.nodes.specs.Walk.{branching, below, pointOf};
 
 // Slot k of node x is hidden and keeps its word. The promise holds whatever the words and the book.
 pub fn hide(masks: &mut [u64], n: usize, x: usize, k: usize)
-    requires { ⌜ (n < 65536) × (length (now masks) ≡ 128 + 2 * n) × In n x k ⌝ }
+    requires { ⌜ (Masked n (now masks)) × In n x k ⌝ }
     ensures { λ _. ⌜ ((slots book : List ℕ) → st n slots (now (masks .exit)) book ≡ hideS x k (st n slots (now (masks .entry)) book)) ⌝ }
 {
     memory::set_val(masks, n, x, k, false);
@@ -37,20 +39,20 @@ fn clear(masks: &[u64], i: usize) -> bool
 // No slot of cell c of a level is active or a branch. A cell's 64 value bits are one word and its 64 child bits another; the child mask of a leaf is not
 // looked at.
 pub fn bare(masks: &[u64], n: usize, level: usize, c: usize) -> bool
-    requires { ⌜ (n < 65536) × (length (now masks) ≡ 128 + 2 * n) × (c < n) ⌝ }
+    requires { ⌜ (Masked n (now masks)) × (c < n) ⌝ }
     ensures { λ r. ⌜ ((slots book : List ℕ) → r ≡ bareS (below level) (st n slots (now (masks .entry)) book) (8 + c)) ⌝ }
 {
-    if !clear(masks, 128 + n + c) {
+    if !clear(masks, BOTH_TOP_MASKS + n + c) {
         return false;
     }
     if level == 0 {
         return true;
     }
-    clear(masks, 64 + c)
+    clear(masks, TOP_MASKS + c)
 }
 
 // The cell below slot k of node x, of a level, is released if it is bare. Nothing is done where the link leaves the pool, or the stack is full.
-fn shut(
+pub fn shut(
     slots: &mut [u32],
     masks: &mut [u64],
     book: &mut [u32],

@@ -9,7 +9,7 @@ use lib.Dec.{ltb, leb}
 use borrow.Author.Tests.{le-leb, lt-leb, eq-eqb, ne-eqb}
 use Rattle.bitset.specs.Set.{every}
 use Rattle.nodes.specs.State.{St}
-use Rattle.nodes.specs.Layout.{st, stackPlace}
+use Rattle.nodes.specs.Layout.{st, countPlace, stackPlace}
 use Rattle.means.specs.Mem.{linked}
 use Rattle.pool.specs.Answers.{affordS}
 use Rattle.pool.proofs.Book.{st-count, st-stack}
@@ -31,7 +31,7 @@ module _ (n : ℕ) (slots masks book : List ℕ) (need : ℕ) where
   unfolding linked
   afford-none e = rw (eq-eqb need 0 e, le-leb need (s .count) (omega arith)) refl
 
-  module _ (free : ℕ) (e : free ≡ getD book 8 0) (z : need ≡ 0 → ⊥) where
+  module _ (free : ℕ) (e : free ≡ getD book countPlace 0) (z : need ≡ 0 → ⊥) where
     count : s .count ≡ free
     count = st-count n slots masks book ∙ sym e
 

@@ -5,7 +5,7 @@ use Prim.Native.Nat.{ℕ, _+_, _<_}
 use native.Mathlib.Nat.{zero-add}
 use lib.ListN.{getD}
 use borrow.Author.Tests.{lt-ltb}
-use Rattle.nodes.specs.Layout.{st, part, countPlace, tagPlace, stackPlace}
+use Rattle.nodes.specs.Layout.{st, part, countPlace, head, tagPlace, stackPlace}
 
 part-at : (lo len : ℕ) (l : List ℕ) (i : ℕ) → i < len → part lo len l i ≡ getD l (lo + i) 0
 part-at lo len l i h = rw (lt-ltb i len h) refl
@@ -17,11 +17,11 @@ module _ (n : ℕ) (slots masks book : List ℕ) where
 
   pub st-tag : (c : ℕ) → c < n → st n slots masks book .tag c ≡ getD book (tagPlace c) 0
   unfolding st
-  st-tag = part-at 9 n book
+  st-tag = part-at head n book
 
   pub st-stack : (i : ℕ) → i < n → st n slots masks book .stack i ≡ getD book (stackPlace n i) 0
   unfolding st
-  st-stack = part-at (9 + n) n book
+  st-stack = part-at (head + n) n book
 
   pub st-mark : (t : ℕ) → t < 8 → st n slots masks book .mark t ≡ getD book t 0
   unfolding st

@@ -54,17 +54,17 @@ module _ (n : ℕ) (slots masks book : List ℕ) where
   pub live-top : (x : ℕ) → x < 8 → true ≡ liveB (st n slots masks book) x
   live-top x h = rw (lt-ltb x 8 h) refl
 
-  module _ (x : ℕ) (h : 8 ≤ x) (l : x < 8 + n) where
-    tag-is : st n slots masks book .tag (x - 8) ≡ getD book (9 + (x - 8)) 0
-    tag-is = st-tag n slots masks book (x - 8) (omega arith)
+  module _ (x u : ℕ) (h : 8 ≤ x) (l : x < 8 + n) (e : u ≡ getD book (tagPlace (x - 8)) 0) where
+    tag-is : st n slots masks book .tag (x - 8) ≡ u
+    tag-is = st-tag n slots masks book (x - 8) (omega arith) ∙ sym e
 
-    pub fork-used : 65536 ≤ getD book (9 + (x - 8)) 0 → ltb (getD book (9 + (x - 8)) 0) 69632 ≡ forkB (st n slots masks book) x
-    fork-used q = rw (le-ltb x 8 h, tag-is, le-leb 65536 (getD book (9 + (x - 8)) 0) q) refl
+    pub fork-used : 65536 ≤ u → ltb u 69632 ≡ forkB (st n slots masks book) x
+    fork-used q = rw (le-ltb x 8 h, tag-is, le-leb 65536 u q) refl
 
-    pub fork-free : getD book (9 + (x - 8)) 0 < 65536 → leb 65536 (getD book (9 + (x - 8)) 0) ≡ forkB (st n slots masks book) x
-    fork-free q = rw (le-ltb x 8 h, tag-is, lt-leb 65536 (getD book (9 + (x - 8)) 0) q) refl
+    pub fork-free : u < 65536 → leb 65536 u ≡ forkB (st n slots masks book) x
+    fork-free q = rw (le-ltb x 8 h, tag-is, lt-leb 65536 u q) refl
 
-    pub live-cell : leb 65536 (getD book (9 + (x - 8)) 0) ≡ liveB (st n slots masks book) x
+    pub live-cell : leb 65536 u ≡ liveB (st n slots masks book) x
     live-cell = rw (le-ltb x 8 h, tag-is) refl
 
 -- ---- a link: c is the word of slot k of node x

@@ -7,5 +7,7 @@ pub mod Promises
 pub mod Afford
 pub mod Turns
 pub mod WholePromises
-pub mod SeatPromises
+pub mod Guards
+pub mod Tasks
+pub mod Pairs
 pub mod Demands

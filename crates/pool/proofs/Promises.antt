@@ -1,22 +1,21 @@
 -- A promise kept, by what its verdict is: the order of the refusals is followed test by test. Assumes nothing.
 use mathlib.Core.Path.{_≡_, refl, sym, ap, ap₂, _∙_, subst}
-use mathlib.Core.Bool.{Bool, true, false, cond, not}
-use mathlib.Core.List.{List, [], _∷_}
-use mathlib.Core.Option.{Option, none, some}
-use Prim.Native.Nat.{ℕ, _+_, _<_, _≤_}
+use mathlib.Core.Bool.{Bool, true, false, cond}
+use mathlib.Core.List.{[], _∷_}
+use mathlib.Core.Option.{none, some}
+use Prim.Native.Nat.{ℕ, _<_, _≤_}
 use native.Mathlib.Omega.{arith}
 use lib.ListN.{length}
-use lib.Dec.{leb}
 use borrow.Author.Tests.{le-leb, lt-leb}
 use Rattle.grid.specs.Geometry.{Point, total}
 use Rattle.seats.specs.Call.{Act, Call, Answer, One, Lookup, refused, found}
 use Rattle.nodes.specs.State.{St}
 use Rattle.nodes.specs.Layout.{Sized, st}
-use Rattle.nodes.specs.Walk.{Reach, active, hidden, broken, reachS, floated, pointOf}
+use Rattle.nodes.specs.Walk.{Reach, active, hidden, broken, reachS, floated, pointOf, voxelOf}
 use Rattle.nodes.specs.declared.walk.Ends.{Ends}
 use Rattle.means.specs.Mem.{Mem, cellsOf, fits, poolOf, walk}
-use Rattle.means.proofs.Points.{voxelOf, reach-same, voxel-alike}
-use Rattle.means.proofs.Memory.{Fitting, fitting}
+use Rattle.means.proofs.Points.{reach-same, voxel-alike}
+use Rattle.means.proofs.Memory.{fitting}
 use Rattle.pool.specs.Answers.{Says, foundOf, shownE}
 use Rattle.pool.specs.declared.voxel.Found.{Found}
 
@@ -45,6 +44,13 @@ Counted n m =
 
 pub counted-fits : (m : Mem) (n : ℕ) → Counted n m → (n ≡ 0 → ⊥) → (fits m ≡ true) × (n ≡ cellsOf m)
 counted-fits m n h z = count-fits m n (h m refl refl refl) z
+
+-- lengths that belong together are for some cell
+pub counted-some : (m : Mem) (n : ℕ) → Counted n m → fits m ≡ true → n ≡ 0 → ⊥
+counted-some m n h f z = some (h m refl refl refl ∙ rw f refl)
+  where
+    some : n ≡ cellsOf m → ⊥
+    some e = omega (arith, fitting m f .some)
 
 -- refusal 1, of any call
 pub counted-1 : {R : Type 0} (f : Answer → R) (c : Call) (m : Mem) (n : ℕ) → Counted n m → n ≡ 0 → Says f c m (f (refused 1)) m

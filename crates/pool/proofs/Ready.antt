@@ -1,21 +1,20 @@
 -- What preparing writes, from the words of each slice to the state. Assumes nothing.
 use mathlib.Core.Path.{_≡_, refl, sym, ap, _∙_, subst}
-use mathlib.Core.Bool.{Bool, true, false, _&&_, _||_, and-false}
+use mathlib.Core.Bool.{Bool, false, _&&_, _||_, and-false}
 use mathlib.Core.List.{List}
 use mathlib.Core.Logic.{_⊎_, inl, inr}
-use Prim.Native.Nat.{ℕ, _+_, _-_, _*_, _/_, _%_, _<_, _≤_}
+use Prim.Native.Nat.{ℕ, _+_, _-_, _*_, _<_, _≤_}
 use native.Mathlib.Omega.{arith}
 use lib.Dec.{ltb, leb}
 use lib.ListN.{length, getD, set, length-set}
 use lib.Seq.{getD-set-same, getD-set-other, length-take-le}
 use borrow.Author.Tests.{lt-ltb, le-ltb, le-leb, lt-leb}
 use borrow.Rule.Slice.PartMut.{putMid, same-len-mid}
-use Rattle.floats.specs.Value.{isFinite, far}
-use Rattle.floats.proofs.Finite.{finite-far}
+use Rattle.floats.specs.Value.{far}
 use Rattle.bitset.specs.Set.{bitOf}
-use Rattle.bitset.proofs.Digits.{lt-or-le, is-or-not}
+use Rattle.bitset.proofs.Digits.{is-or-not}
 use Rattle.bitset.proofs.Parts.{bit-put}
-use Rattle.nodes.specs.Layout.{st, wordOf}
+use Rattle.nodes.specs.Layout.{st, wordOf, countPlace, head, tops, masksLength, bookLength}
 use Rattle.nodes.specs.Range.{In}
 use Rattle.nodes.proofs.Places.{wide-top, word-top}
 use Rattle.nodes.proofs.States.{st-slot, st-kid, st-val}
@@ -77,7 +76,7 @@ module _ (ws ys : List ℕ) (a n : ℕ) (fits : a + n ≤ length ws) (long : len
   off-still k e = put-off k ∙ rw e (and-false (ltb k (64 * a) || leb (64 * (a + n)) k))
 
 -- first the 64 child words of the tops, then their 64 value words
-pub emptied : (n : ℕ) (ws ys zs : List ℕ) → length ws ≡ 128 + 2 * n → length ys ≡ 64 → length zs ≡ 64 → ((i : ℕ) → bitOf ys i ≡ false) → ((i : ℕ) → bitOf zs i ≡ false)
+pub emptied : (n : ℕ) (ws ys zs : List ℕ) → length ws ≡ masksLength n → length ys ≡ 64 → length zs ≡ 64 → ((i : ℕ) → bitOf ys i ≡ false) → ((i : ℕ) → bitOf zs i ≡ false)
     → Emptied n (putMid (64 + n) (128 + n - (64 + n)) (putMid 0 64 ws ys) zs)
 emptied n ws ys zs h a b p q =
     let d = 128 + n - (64 + n) in
@@ -89,25 +88,25 @@ emptied n ws ys zs h a b p q =
     }
 
 -- ---- the book: the marks, the use marks, the stack, and the count
-pub freed : (n : ℕ) {l₀ l₁ l₂ l₃ : List ℕ} → length l₀ ≡ 9 + 2 * n → Run 0 8 (λ i. 0) l₀ l₁ → Run 9 n (λ i. i) l₁ l₂ → Run (9 + n) n (λ i. i) l₂ l₃ → Freed n (set l₃ 8 n)
+pub freed : (n : ℕ) {l₀ l₁ l₂ l₃ : List ℕ} → length l₀ ≡ bookLength n → Run 0 8 (λ i. 0) l₀ l₁ → Run head n (λ i. i) l₁ l₂ → Run (head + n) n (λ i. i) l₂ l₃ → Freed n (set l₃ countPlace n)
 freed n {l₀} {l₁} {l₂} {l₃} h a b c =
     record {
       marks = λ t m. apart t (λ e. omega arith) ∙ c .other t (inl (omega arith)) ∙ b .other t (inl (omega arith)) ∙ a .here t (omega arith) (omega arith);
-      count = getD-set-same l₃ 8 n 0 (omega (arith, a .long, b .long, c .long));
+      count = getD-set-same l₃ countPlace n 0 (omega (arith, a .long, b .long, c .long));
       tags = λ i m.
-          let e : 9 + i - 9 ≡ i = omega arith in
-          apart (9 + i) (λ e. omega arith) ∙ c .other (9 + i) (inl (omega arith)) ∙ b .here (9 + i) (omega arith) (omega arith) ∙ e;
-      stack = λ i m. let e : 9 + n + i - (9 + n) ≡ i = omega arith in apart (9 + n + i) (λ e. omega arith) ∙ c .here (9 + n + i) (omega arith) (omega arith) ∙ e;
+          let e : head + i - head ≡ i = omega arith in
+          apart (head + i) (λ e. omega arith) ∙ c .other (head + i) (inl (omega arith)) ∙ b .here (head + i) (omega arith) (omega arith) ∙ e;
+      stack = λ i m. let e : head + n + i - (head + n) ≡ i = omega arith in apart (head + n + i) (λ e. omega arith) ∙ c .here (head + n + i) (omega arith) (omega arith) ∙ e;
     }
   where
-    apart : (j : ℕ) → (j ≡ 8 → ⊥) → getD (set l₃ 8 n) j 0 ≡ getD l₃ j 0
-    apart j = getD-set-other l₃ 8 j n 0
+    apart : (j : ℕ) → (j ≡ countPlace → ⊥) → getD (set l₃ countPlace n) j 0 ≡ getD l₃ j 0
+    apart j = getD-set-other l₃ countPlace j n 0
 
 -- ---- the state
 pub top : (n t k : ℕ) → t < 8 → k < 512 → In n t k
 top n t k ht hk = record { node = omega arith; slot = omega (arith, wide-top t ht) }
 
-pub ready : (n : ℕ) {slots₀ slots masks book : List ℕ} (w : ℕ) → w ≡ far → Run 0 4096 (λ i. w) slots₀ slots → Emptied n masks → Freed n book → Ready n (st n slots masks book)
+pub ready : (n : ℕ) {slots₀ slots masks book : List ℕ} (w : ℕ) → w ≡ far → Run 0 tops (λ i. w) slots₀ slots → Emptied n masks → Freed n book → Ready n (st n slots masks book)
 ready n {slots₀} {slots} {masks} {book} w e r m b =
     record {
       all-free = st-count n slots masks book ∙ b .count;
@@ -119,19 +118,5 @@ ready n {slots₀} {slots} {masks} {book} w e r m b =
       unmarked = λ t h. st-mark n slots masks book t h ∙ b .marks t h;
     }
   where
-    low : (t k : ℕ) → t < 8 → k < 512 → wordOf t k < 4096
+    low : (t k : ℕ) → t < 8 → k < 512 → wordOf t k < tops
     low t k ht hk = omega (arith, word-top t k ht)
-
--- what a caller of prepare has of every word of the slots: it is as before, or finite
-pub ready-finite : (n : ℕ) (slots₀ slots masks book : List ℕ) → Ready n (st n slots masks book) → ((i : ℕ) → 4096 ≤ i → getD slots i 0 ≡ getD slots₀ i 0)
-    → (i : ℕ) → (getD slots i 0 ≡ getD slots₀ i 0) ⊎ (isFinite (getD slots i 0) ≡ true)
-ready-finite n slots₀ slots masks book r kept i = elim (lt-or-le i 4096) [
-  | inl h ↦
-      let t = i / 512 in
-      let k = i % 512 in
-      let ht : t < 8 = omega arith in
-      let hk : k < 512 = omega arith in
-      let e : i ≡ wordOf t k = omega (arith, word-top t k ht) in
-      inr (ap isFinite (ap (λ (j : ℕ). getD slots j 0) e ∙ sym (st-slot slots masks book (top n t k ht hk)) ∙ r .all-far t k ht hk) ∙ finite-far)
-  | inr h ↦ inl (kept i h)
-]

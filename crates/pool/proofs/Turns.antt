@@ -1,29 +1,28 @@
 -- One seat turned: the promise of a call that changes it, from what the code has done to the pool. Assumes nothing.
-use mathlib.Core.Path.{_≡_, refl, sym, ap, ap₂, _∙_, subst}
+use mathlib.Core.Path.{_≡_, refl, sym, ap, ap₂, _∙_}
 use mathlib.Core.Bool.{Bool, true, false, not, cond, _&&_}
-use mathlib.Core.List.{List, [], _∷_}
+use mathlib.Core.List.{[], _∷_}
 use mathlib.Core.Option.{Option, none, some}
-use Prim.Native.Nat.{ℕ, zero, suc, _+_, _*_, _-_, _/_, _<_, _≤_}
+use Prim.Native.Nat.{ℕ, zero, suc, _-_, _/_, _<_, _≤_}
 use native.Mathlib.Omega.{arith}
 use lib.ListN.{length}
-use lib.Dec.{leb, ltb, eqb}
+use lib.Dec.{leb, eqb}
 use borrow.Author.Tests.{lt-leb}
 use lib.Ieee.{Float}
 use Rattle.floats.specs.Value.{value, isFinite}
 use Rattle.grid.specs.Geometry.{Point, total}
 use Rattle.grid.specs.Node.{Node, put}
-use Rattle.grid.specs.Voxel.{insert, remove}
-use Rattle.seats.specs.Call.{Act, Call, Answer, One, Insert, Remove, refused, done}
+use Rattle.seats.specs.Call.{Act, Call, One, Insert, Remove, refused, done}
 use Rattle.seats.specs.Promise.{Keeps, turn, loose}
 use Rattle.seats.specs.Refusal.{refusal}
-use Rattle.seats.specs.Seat.{Seat, State, free}
+use Rattle.seats.specs.Seat.{Seat, State}
 use Rattle.seats.specs.Step.{act, served, step}
 use Rattle.seats.proofs.Refusal.{enough}
 use Rattle.seats.proofs.Promise.{served-step}
 use Rattle.nodes.specs.State.{St}
-use Rattle.nodes.specs.Layout.{st}
+use Rattle.nodes.specs.Layout.{st, tops}
 use Rattle.nodes.specs.Change.{markS}
-use Rattle.nodes.specs.Walk.{Reach, active, hidden, broken, floated, needInsertR, needRemoveR, insertM, pointOf}
+use Rattle.nodes.specs.Walk.{Reach, active, hidden, broken, floated, needInsertR, needRemoveR, insertM, pointOf, voxelOf}
 use Rattle.nodes.specs.Ends.{needInsertE, needRemoveE}
 use Rattle.nodes.specs.declared.walk.Ends.{Ends}
 use Rattle.nodes.proofs.Paths.{need-insert, need-remove}
@@ -31,14 +30,16 @@ use Rattle.nodes.specs.Remove.{removeM}
 use Rattle.nodes.specs.Test.{soundB}
 use Rattle.means.specs.Level.{levels, Turned}
 use Rattle.means.specs.Mem.{Mem, lensOf, cellsOf, fits, poolOf, SoundMem, seatOf, stateOf, walk, whole, linked, readsIn}
-use Rattle.means.proofs.Memory.{Fitting, fitting, mem-sound, seat-is}
+use Rattle.means.proofs.Memory.{fitting, mem-sound, seat-is}
 use Rattle.means.proofs.SeatTurn.{turn-sound, turn-seats}
-use Rattle.means.proofs.Points.{voxelOf, voxel-alike, insert-same, remove-same}
+use Rattle.means.proofs.Points.{voxel-alike, insert-same, remove-same}
 use Rattle.means.proofs.Insert.{insert-right}
 use Rattle.means.proofs.Remove.{remove-right}
 use Rattle.means.proofs.Loose.{LooseS, loose-insert, loose-remove, loose-mem}
 use Rattle.pool.specs.Lent.{lent}
 use Rattle.pool.specs.Answers.{Says, codeOf, blockedE, insertBlocked, removeBlocked}
+use Rattle.pool.specs.Guard.{orNone}
+use Rattle.pool.proofs.Guards.{blocked-says}
 use Rattle.pool.proofs.Promises.{Counted, is-fit, is-cells, is-pool, is-walk}
 
 -- ---- the same lengths
@@ -53,7 +54,7 @@ module _ {m m' : Mem} (k : Kept m m') where
   kept-lens = cc (k .slots, k .masks, k .book)
 
   pub kept-cells : cellsOf m' ≡ cellsOf m
-  kept-cells = ap (λ (n : ℕ). (n - 4096) / 64) (k .slots)
+  kept-cells = ap (λ (n : ℕ). (n - tops) / 64) (k .slots)
 
   pub kept-fits : fits m' ≡ fits m
   unfolding fits
@@ -75,40 +76,16 @@ module _ (m m' : Mem) (i : ℕ) (l : i < 8) (x : Act) (serve : refusal (readsIn 
 
 -- ---- insert and remove: the tests after the walk
 
-abbrev pub orNone : ℕ → Option ℕ
-orNone zero = none
-orNone (suc n) = some (suc n)
+afford-is : (x y : Bool) → cond (not x) (some 5) (cond (not y) (some 9) none) ≡ orNone (cond x (cond y 0 9) 5)
+afford-is true true = refl
+afford-is true false = refl
+afford-is false y = refl
 
 blocked-is : (n : ℕ) (s : St) (q : Reach) (need : ℕ)
     → cond (not (whole q && linked n s need)) (some 5) (cond (not (leb need (s .count))) (some 9) none) ≡ orNone (blockedE n s (floated q) need)
-blocked-is n s (active k w) need = go (linked n s need) (leb need (s .count))
-  where
-    go : (x y : Bool) → cond (not x) (some 5) (cond (not y) (some 9) none) ≡ orNone (cond x (cond y 0 9) 5)
-    go true true = refl
-    go true false = refl
-    go false y = refl
-blocked-is n s (hidden k w) need = go (linked n s need) (leb need (s .count))
-  where
-    go : (x y : Bool) → cond (not x) (some 5) (cond (not y) (some 9) none) ≡ orNone (cond x (cond y 0 9) 5)
-    go true true = refl
-    go true false = refl
-    go false y = refl
+blocked-is n s (active k w) need = afford-is (linked n s need) (leb need (s .count))
+blocked-is n s (hidden k w) need = afford-is (linked n s need) (leb need (s .count))
 blocked-is n s broken need = refl
-
-none-is : (n : ℕ) → orNone n ≡ none → n ≡ 0
-none-is zero e = refl
-none-is (suc n) e = let z : _≡_ {A = ℕ} 0 1 = cc in absurd (no z)
-  where
-    no : _≡_ {A = ℕ} 0 1 → ⊥
-    no z = omega arith
-
-some-is : (n : ℕ) → (n ≡ 0 → ⊥) → orNone n ≡ some n
-some-is zero h = absurd (h refl)
-some-is (suc n) h = refl
-
--- the answer of a call on one voxel is the number n of a refusal
-pub blocked-says : (c : Call) (m : Mem) (n : ℕ) → refusal (readsIn m) c ≡ orNone n → (n ≡ 0 → ⊥) → Says codeOf c m n m
-blocked-says c m n e h = (refused n, refl, rw (e ∙ some-is n h) (refl, refl))
 
 module _ (m : Mem) (i : ℕ) (l : i < 8) (p : Point) (fit : fits m ≡ true) where
   pub insert-refusal : (w : ℕ) → isFinite w ≡ true
@@ -169,10 +146,10 @@ module _ (m : Mem) (n : ℕ) (h : Counted n m) (z : n ≡ 0 → ⊥) (i v : ℕ)
 
   pub insert-blocked : (w r : ℕ) → isFinite w ≡ true → r ≡ insertBlocked n (st n (m .slots) (m .masks) (m .book)) (pointOf v) w i → (r ≡ 0 → ⊥)
       → Says codeOf (One i (Insert p w)) m r m
-  insert-blocked w r f e = blocked-says (One i (Insert p w)) m r (insert-refusal m i (omega arith) p (is-fit m n h z) w f ∙ ap orNone (sym (e ∙ insert-number w)))
+  insert-blocked w r f e = blocked-says codeOf (One i (Insert p w)) m r (insert-refusal m i (omega arith) p (is-fit m n h z) w f ∙ ap orNone (sym (e ∙ insert-number w)))
 
   pub remove-blocked : (r : ℕ) → r ≡ removeBlocked n (st n (m .slots) (m .masks) (m .book)) (pointOf v) i → (r ≡ 0 → ⊥) → Says codeOf (One i (Remove p)) m r m
-  remove-blocked r e = blocked-says (One i (Remove p)) m r (remove-refusal m i (omega arith) p (is-fit m n h z) ∙ ap orNone (sym (e ∙ remove-number)))
+  remove-blocked r e = blocked-says codeOf (One i (Remove p)) m r (remove-refusal m i (omega arith) p (is-fit m n h z) ∙ ap orNone (sym (e ∙ remove-number)))
 
   module _ (m' : Mem) (k : Kept m m') where
     after : st n (m' .slots) (m' .masks) (m' .book) ≡ poolOf m'

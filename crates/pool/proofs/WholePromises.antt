@@ -1,7 +1,8 @@
 -- The promises of the calls on the pool and of those that only read a seat, from what the code tested and read. Assumes nothing.
 use mathlib.Core.Path.{_≡_, refl, sym, ap, ap₂, _∙_, subst, fun-ext}
-use mathlib.Core.Bool.{Bool, true, false, not, _&&_}
+use mathlib.Core.Bool.{Bool, true, false, not, _&&_, cond}
 use mathlib.Core.List.{List, [], _∷_}
+use mathlib.Core.Option.{none}
 use Prim.Native.Nat.{ℕ, zero, suc, _+_, _-_, _*_, _%_, _<_, _≤_}
 use native.Mathlib.Omega.{arith}
 use lib.ListN.{length, getD, take, drop}
@@ -17,29 +18,29 @@ use Rattle.grid.specs.Geometry.{Point, slotOf}
 use Rattle.grid.specs.Node as node
 use Rattle.grid.specs.Node.{Node, isHidden, size}
 use Rattle.grid.specs.Whole.{isEmpty}
-use Rattle.seats.specs.Call.{Call, One, Sign, IsEmpty, Prepare, Count, names, Answer, refused, negativeIs, emptyIs, freeCells, done, wholePool, asks}
-use Rattle.seats.specs.Refusal.{any, alike}
+use Rattle.seats.specs.Call.{One, Sign, IsEmpty, Prepare, Count, refused, negativeIs, emptyIs, freeCells, done}
+use Rattle.seats.specs.Refusal.{refusal}
 use Rattle.seats.specs.Seat.{Seat, State, fresh}
 use Rattle.seats.specs.Step.{step, play, served}
 use Rattle.nodes.specs.State.{St, slotAt, tree}
 use Rattle.nodes.specs.Layout.{st, wordOf, countPlace, inside}
-use Rattle.nodes.specs.Test.{soundB}
-use Rattle.nodes.specs.Walk.{Reach, active, hidden, broken, reachAt, reachS, floated, pointOf}
+use Rattle.nodes.specs.Walk.{Reach, active, hidden, broken, reachAt, reachS, floated, pointOf, voxelOf}
 use Rattle.nodes.specs.declared.walk.Ends.{Ends}
 use Rattle.nodes.proofs.Places.{word-top}
 use Rattle.nodes.proofs.States.{st-kid, st-val}
-use Rattle.means.specs.Mem.{Mem, cellsOf, poolOf, SoundMem, seatOf, stateOf, lensOf, walk}
+use Rattle.means.specs.Mem.{Mem, cellsOf, poolOf, SoundMem, seatOf, stateOf, lensOf, walk, readsIn}
 use Rattle.means.specs.Prepared.{Ready}
-use Rattle.means.proofs.Memory.{fitting, mem-sound, seat-is}
-use Rattle.means.proofs.Points.{voxelOf}
+use Rattle.means.proofs.Memory.{fitting, seat-is}
 use Rattle.means.proofs.Prepared.{ready-sound, ready-fresh}
 use Rattle.pool.specs.Answers.{Says, codeOf, countOf, whetherOf, finiteE, signedE}
+use Rattle.pool.specs.Guard.{orNone, guardOf}
 use Rattle.pool.specs.declared.whole.Free.the-variants as free
 use Rattle.pool.specs.declared.whole.Whether.{Whether}
 use Rattle.pool.specs.declared.whole.Whether.the-variants as whether
 use Rattle.pool.proofs.Book.{st-count, st-mark}
 use Rattle.pool.proofs.Checks.{passed, failed}
-use Rattle.pool.proofs.Promises.{Counted, is-fit, is-cells, is-pool, is-walk}
+use Rattle.pool.proofs.Guards.{plain-is, served-seat, served-sound}
+use Rattle.pool.proofs.Promises.{Counted, counted-some, is-fit, is-cells, is-pool, is-walk}
 use Rattle.pool.proofs.Ready.{top}
 
 -- ---- preparing: m is the memory before it, and m' after it
@@ -209,29 +210,27 @@ module _ (m : Mem) (n : ℕ) (h : Counted n m) (z : n ≡ 0 → ⊥) where
       go (hidden k u) false e q g = (refused 6, refl, rw (is-fit m n h z, lt-leb 8 i (omega arith), e, q) (refl, refl))
       go broken f e q g = (refused 5, refl, rw (is-fit m n h z, lt-leb 8 i (omega arith), e) (refl, refl))
 
-  -- a call that tests the whole pool: t is what the test said
-  module _ (t : Bool) (e : t ≡ soundB n (st n (m .slots) (m .masks) (m .book))) where
-    tested : t ≡ soundB (cellsOf m) (poolOf m)
-    tested = e ∙ ap₂ soundB (is-cells m n h z) (is-pool m n h z)
+-- ---- a call that tests the whole pool and is served
+pub count-says : (m : Mem) → refusal (readsIn m) Count ≡ none → (k : ℕ) → k ≡ getD (m .book) countPlace 0 → Says countOf Count m (free.Cells k) m
+unfolding poolOf
+count-says m serve k d = (freeCells k, refl, rw serve (ap freeCells (d ∙ sym (st-count (cellsOf m) (m .slots) (m .masks) (m .book))), refl))
 
-    -- refusal 5, of any call that tests the whole pool, where no refusal before it holds
-    pub tested-5 : {R : Type 0} (f : Answer → R) (c : Call) → any (λ i. leb 8 i) (names c) ≡ false → alike (names c) ≡ false → asks c .given ≡ true → asks c .kind ≡ wholePool
-        → not t ≡ true → Says f c m (f (refused 5)) m
-    tested-5 f c a b g k o = (refused 5, refl, rw (is-fit m n h z, a, b, g, k, failed t tested o) (refl, refl))
+pub empty-says : (m : Mem) (n : ℕ) (h : Counted n m) (i : ℕ) → refusal (readsIn m) (One i IsEmpty) ≡ none
+    → (r : Bool) → r ≡ isEmpty 3 (2 ∷ 2 ∷ []) (tree 3 (2 ∷ 2 ∷ []) (st n (m .slots) (m .masks) (m .book)) i) → Says whetherOf (One i IsEmpty) m (whether.Is r) m
+empty-says m n h i serve r d =
+    let s = served-sound m (One i IsEmpty) serve refl in (
+      emptyIs r,
+      refl,
+      rw serve (
+        ap emptyIs (d ∙ ap (λ (s : St). isEmpty 3 (2 ∷ 2 ∷ []) (tree 3 (2 ∷ 2 ∷ []) s i)) (is-pool m n h (counted-some m n h (s .0)))
+            ∙ sym (ap (λ (x : Seat 3 (2 ∷ 2 ∷ [])). isEmpty 3 (2 ∷ 2 ∷ []) (x .grid)) (seat-is m s i (served-seat m i IsEmpty serve)))),
+        refl,
+      ),
+    )
 
-    module _ (o : not t ≡ false) where
-      pub count-says : (k : ℕ) → k ≡ getD (m .book) countPlace 0 → Says countOf Count m (free.Cells k) m
-      count-says k d =
-          let c : k ≡ poolOf m .count = d ∙ sym (st-count n (m .slots) (m .masks) (m .book)) ∙ ap (λ (s : St). s .count) (is-pool m n h z) in
-          (freeCells k, refl, rw (is-fit m n h z, passed t tested o) (ap freeCells c, refl))
+-- ---- the refusals of both, g being what was given and r what the guard found
+pub count-barred : (m : Mem) {r : ℕ} → r ≡ guardOf m 0 → refusal (readsIn m) Count ≡ orNone r
+count-barred m e = plain-is m Count refl refl e
 
-      pub empty-says : (i : ℕ) → i ≤ 7 → (r : Bool) → r ≡ isEmpty 3 (2 ∷ 2 ∷ []) (tree 3 (2 ∷ 2 ∷ []) (st n (m .slots) (m .masks) (m .book)) i)
-          → Says whetherOf (One i IsEmpty) m (whether.Is r) m
-      empty-says i l r d =
-          let f = is-fit m n h z in
-          let s = mem-sound m f (passed t tested o) in
-          let g : r ≡ isEmpty 3 (2 ∷ 2 ∷ []) (seatOf m i .grid) =
-          d ∙ ap (λ (s : St). isEmpty 3 (2 ∷ 2 ∷ []) (tree 3 (2 ∷ 2 ∷ []) s i)) (is-pool m n h z)
-          ∙ sym (ap (λ (x : Seat 3 (2 ∷ 2 ∷ [])). isEmpty 3 (2 ∷ 2 ∷ []) (x .grid)) (seat-is m s i (omega arith)))
-          in
-          (emptyIs r, refl, rw (f, lt-leb 8 i (omega arith), passed t tested o) (ap emptyIs g, refl))
+pub empty-barred : (m : Mem) (i : ℕ) {g r : ℕ} → g ≡ cond (leb 8 i) 2 0 → r ≡ guardOf m g → refusal (readsIn m) (One i IsEmpty) ≡ orNone r
+empty-barred m i a e = plain-is m (One i IsEmpty) refl refl (e ∙ ap (guardOf m) a)

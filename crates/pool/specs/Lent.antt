@@ -1,5 +1,5 @@
 -- Lent memory as the memory that every promise speaks of. What is read of it stands in means, specs/Mem. Assumes nothing.
-use mathlib.Core.List.{List, [], _∷_}
+use mathlib.Core.List.{[], _∷_}
 use mathlib.Core.Path.{refl}
 use Rattle.seats.specs.Promise.{Memory}
 use Rattle.means.specs.Mem.{Mem, lensOf, sizeOf, SoundMem, stateOf, readsIn, lookupIn, negativeIn, LooseMem}

@@ -3,3 +3,5 @@ pub mod Runs
 pub mod Slots
 pub mod Lent
 pub mod Answers
+pub mod Guard
+pub mod Task

@@ -6,7 +6,7 @@ use mathlib.Core.Logic.{_⊎_}
 use Prim.Native.Nat.{ℕ, _+_, _-_, _*_, _<_, _≤_}
 use lib.ListN.{length, getD}
 use Rattle.bitset.specs.Set.{bitOf}
-use Rattle.nodes.specs.Layout.{countPlace, tagPlace, stackPlace}
+use Rattle.nodes.specs.Layout.{countPlace, tagPlace, stackPlace, tops}
 
 -- the len words from lo on are those of f, and the others as before
 pub record Run (lo len : ℕ) (f : ℕ → ℕ) (l₀ l : List ℕ) : Type 0 where
@@ -14,10 +14,10 @@ pub record Run (lo len : ℕ) (f : ℕ → ℕ) (l₀ l : List ℕ) : Type 0 whe
   pub here : (j : ℕ) → lo ≤ j → j < lo + len → getD l j 0 ≡ f (j - lo)
   pub other : (j : ℕ) → (j < lo) ⊎ (lo + len ≤ j) → getD l j 0 ≡ getD l₀ j 0
 
--- no bit of a top is on: the tops' words are the first 4096, and so are their bits in both masks
+-- no bit of a top is on: the tops' words are the first, and so are their bits in both masks
 pub record Emptied (n : ℕ) (masks : List ℕ) : Type 0 where
-  pub kids : (i : ℕ) → i < 4096 → bitOf masks i ≡ false
-  pub vals : (i : ℕ) → i < 4096 → bitOf masks (64 * (64 + n) + i) ≡ false
+  pub kids : (i : ℕ) → i < tops → bitOf masks i ≡ false
+  pub vals : (i : ℕ) → i < tops → bitOf masks (64 * (64 + n) + i) ≡ false
 
 pub record Freed (n : ℕ) (book : List ℕ) : Type 0 where
   pub marks : (t : ℕ) → t < 8 → getD book t 0 ≡ 0

@@ -1,10 +1,15 @@
 // Preparing: every cell is freed, and every seat emptied. What a free cell holds is never read, so no word of a cell is written, and the cost is that of eight tops and
 // of the book.
+use nodes::memory::BOTH_TOP_MASKS;
+use nodes::memory::COUNT;
+use nodes::memory::HEAD;
+use nodes::memory::TOP_MASKS;
+use nodes::memory::TOPS;
 ghost use mathlib.Core.Path.{_≡_};
-ghost use Prim.Native.Nat.{ℕ, _+_, _*_, _≤_, _<_};
+ghost use Prim.Native.Nat.{ℕ, _+_, _≤_, _<_};
 ghost use lib.ListN.{length, getD};
-ghost use Rattle.nodes.specs.Layout.{Sized, st};
-ghost use Rattle.nodes.specs.Range.{Booked};
+ghost use Rattle.nodes.specs.Layout.{Sized, st, tops};
+ghost use Rattle.nodes.specs.Range.{Masked, Booked};
 ghost use Rattle.means.specs.Prepared.{Ready};
 ghost use Rattle.pool.specs.Runs.{Run, Emptied, Freed};
 
@@ -34,12 +39,12 @@ fn count_up(ws: &mut [u32], lo: usize, len: usize)
 
 // No slot of a top is a branch or an active value: the words of the tops stand first among the child masks and first among the value masks.
 fn empty_tops(masks: &mut [u64], n: usize)
-    requires { ⌜ (n < 65536) × (length (now masks) ≡ 128 + 2 * n) ⌝ }
+    requires { ⌜ Masked n (now masks) ⌝ }
     ensures { λ _. ⌜ Emptied n (now (masks .exit)) ⌝ }
 {
-    bitset::zeroes(&mut masks[0..64]);
-    let a = 64 + n;
-    let e = 128 + n;
+    bitset::zeroes(&mut masks[0..TOP_MASKS]);
+    let a = TOP_MASKS + n;
+    let e = BOTH_TOP_MASKS + n;
     bitset::zeroes(&mut masks[a..e]);
 }
 
@@ -48,18 +53,18 @@ fn free_all(book: &mut [u32], n: usize)
     requires { ⌜ Booked n (now book) ⌝ }
     ensures { λ _. ⌜ Freed n (now (book .exit)) ⌝ }
 {
-    fill(book, 0, 8, 0);
-    count_up(book, 9, n);
-    count_up(book, 9 + n, n);
-    book[8] = n as u32;
+    fill(book, 0, COUNT, 0);
+    count_up(book, HEAD, n);
+    count_up(book, HEAD + n, n);
+    book[COUNT] = n as u32;
 }
 
 pub fn prepare(slots: &mut [u32], masks: &mut [u64], book: &mut [u32], n: usize)
     requires { ⌜ Sized n (now slots) (now masks) (now book) ⌝ }
     ensures ready { λ _. ⌜ Ready n (st n (now (slots .exit)) (now (masks .exit)) (now (book .exit))) ⌝ }
-    ensures kept { λ _. ⌜ ((i : ℕ) → 4096 ≤ i → getD (now (slots .exit)) i 0 ≡ getD (now (slots .entry)) i 0) ⌝ }
+    ensures kept { λ _. ⌜ ((i : ℕ) → tops ≤ i → getD (now (slots .exit)) i 0 ≡ getD (now (slots .entry)) i 0) ⌝ }
 {
-    fill(slots, 0, 4096, floats::far_word(false));
+    fill(slots, 0, TOPS, floats::far_word(false));
     empty_tops(masks, n);
     free_all(book, n);
 }

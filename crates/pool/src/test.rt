@@ -1,19 +1,24 @@
 // The test that a pool is sound. Each mark, each place of the stack, each cell and each slot that counts is looked at once, and nothing is trusted: a use mark, a place
 // of the stack and a link are each below the pool's bounds before they are used as a place. The two ends of a link, and those of a place of the stack, have to name each
 // other, so no second pass over the cells is needed.
+use nodes::cells;
+use nodes::geometry::Top;
+use nodes::memory::CELL;
+use nodes::memory::USED;
+use nodes::memory::USED_BY_TOPS;
 ghost use mathlib.Core.Path.{_≡_};
 ghost use mathlib.Core.List.{List};
-ghost use Prim.Native.Nat.{ℕ, _+_, _*_, _≤_, _<_};
+ghost use Prim.Native.Nat.{ℕ, _+_, _≤_, _<_};
 ghost use lib.ListN.{length, getD};
 ghost use lib.Dec.{ltb};
 ghost use Rattle.bitset.specs.Set.{every};
 ghost use Rattle.nodes.specs.State.{wide};
-ghost use Rattle.nodes.specs.Layout.{Sized, st};
-ghost use Rattle.nodes.specs.Range.{Booked, In};
+ghost use Rattle.nodes.specs.Layout.{Sized, st, countPlace};
+ghost use Rattle.nodes.specs.Range.{Slotted, Booked, In};
 ghost use Rattle.nodes.specs.Test.{forkB, liveB, stackedB, linkB, heldB, cellB, nodeB, soundB};
 ghost use Rattle.pool.specs.Slots.{valueB, eitherB};
 
-// A word as a number that may be a place.
+// A word of a slot as a number that may be a cell's.
 fn place(w: u32) -> usize
     ensures { λ r. ⌜ r ≡ w ⌝ }
 {
@@ -24,7 +29,7 @@ fn place(w: u32) -> usize
 fn width(x: usize) -> usize
     ensures { λ r. ⌜ r ≡ wide x ⌝ }
 {
-    if x < 8 { 512 } else { 64 }
+    if x < 8 { Top::SIZE } else { CELL }
 }
 
 // Each filled mark is 0 or 1.
@@ -47,19 +52,19 @@ fn stacked(book: &[u32], n: usize, i: usize) -> bool
     requires { ⌜ (Booked n (now book)) × (i < n) ⌝ }
     ensures { λ r. ⌜ ((slots masks : List ℕ) → r ≡ stackedB n (st n slots masks (now (book .entry))) i) ⌝ }
 {
-    let c = place(book[9 + n + i]);
+    let c = cells::stacked(book, n, i);
     if n <= c {
         return false;
     }
-    place(book[9 + c]) == i
+    cells::tag(book, c) == i
 }
 
 // Each place of the stack below the count of free cells.
 fn all_stacked(book: &[u32], n: usize) -> bool
-    requires { ⌜ (Booked n (now book)) × (getD (now book) 8 0 ≤ n) ⌝ }
-    ensures { λ r. ⌜ ((slots masks : List ℕ) → r ≡ every (stackedB n (st n slots masks (now (book .entry)))) (getD (now (book .entry)) 8 0)) ⌝ }
+    requires { ⌜ (Booked n (now book)) × (getD (now book) countPlace 0 ≤ n) ⌝ }
+    ensures { λ r. ⌜ ((slots masks : List ℕ) → r ≡ every (stackedB n (st n slots masks (now (book .entry)))) (getD (now (book .entry)) countPlace 0)) ⌝ }
 {
-    let m = place(book[8]);
+    let m = cells::count(book);
     let mut i = 0;
     while i < m {
         if !stacked(book, n, i) {
@@ -78,8 +83,8 @@ fn forks(book: &[u32], n: usize, x: usize) -> bool
     if x < 8 {
         return true;
     }
-    let u = book[9 + (x - 8)];
-    65536 <= u && u < 69632
+    let u = cells::tag(book, x - 8);
+    USED <= u && u < USED_BY_TOPS
 }
 
 // Node x counts: it is a top or a used cell.
@@ -90,7 +95,7 @@ fn lives(book: &[u32], n: usize, x: usize) -> bool
     if x < 8 {
         return true;
     }
-    65536 <= book[9 + (x - 8)]
+    USED <= cells::tag(book, x - 8)
 }
 
 // The use mark u, of 65,536 or more, of cell c names a slot that may be a branch, is one, and links to c.
@@ -98,8 +103,8 @@ fn held(slots: &[u32], masks: &[u64], book: &[u32], n: usize, c: usize, u: usize
     requires { ⌜ (Sized n (now slots) (now masks) (now book)) × (65536 ≤ u) ⌝ }
     ensures { λ r. ⌜ r ≡ heldB n (st n (now (slots .entry)) (now (masks .entry)) (now (book .entry))) c u ⌝ }
 {
-    let x = (u - 65536) / 512;
-    let k = (u - 65536) % 512;
+    let x = (u - USED) / Top::SIZE;
+    let k = (u - USED) % Top::SIZE;
     if 8 + n <= x {
         return false;
     }
@@ -117,22 +122,22 @@ fn held(slots: &[u32], masks: &[u64], book: &[u32], n: usize, c: usize, u: usize
 
 // Cell c is free at the place of the stack that its use mark names, or linked to by the slot that it names.
 fn cell(slots: &[u32], masks: &[u64], book: &[u32], n: usize, c: usize) -> bool
-    requires { ⌜ (Sized n (now slots) (now masks) (now book)) × (getD (now book) 8 0 ≤ n) × (c < n) ⌝ }
+    requires { ⌜ (Sized n (now slots) (now masks) (now book)) × (getD (now book) countPlace 0 ≤ n) × (c < n) ⌝ }
     ensures { λ r. ⌜ r ≡ cellB n (st n (now (slots .entry)) (now (masks .entry)) (now (book .entry))) c ⌝ }
 {
-    let u = place(book[9 + c]);
-    if 65536 <= u {
+    let u = cells::tag(book, c);
+    if USED <= u {
         return held(slots, masks, book, n, c, u);
     }
-    if place(book[8]) <= u {
+    if cells::count(book) <= u {
         return false;
     }
-    place(book[9 + n + u]) == c
+    cells::stacked(book, n, u) == c
 }
 
 // Each cell is free or linked to, as its use mark says.
 fn all_cells(slots: &[u32], masks: &[u64], book: &[u32], n: usize) -> bool
-    requires { ⌜ (Sized n (now slots) (now masks) (now book)) × (getD (now book) 8 0 ≤ n) ⌝ }
+    requires { ⌜ (Sized n (now slots) (now masks) (now book)) × (getD (now book) countPlace 0 ≤ n) ⌝ }
     ensures { λ r. ⌜ r ≡ every (cellB n (st n (now (slots .entry)) (now (masks .entry)) (now (book .entry)))) n ⌝ }
 {
     let mut c = 0;
@@ -154,7 +159,7 @@ fn link(slots: &[u32], masks: &[u64], book: &[u32], n: usize, x: usize, k: usize
     if n <= c {
         return false;
     }
-    if place(book[9 + c]) != 65536 + (512 * x + k) {
+    if cells::tag(book, c) != USED + (Top::SIZE * x + k) {
         return false;
     }
     !nodes::memory::val(masks, n, x, k)
@@ -162,7 +167,7 @@ fn link(slots: &[u32], masks: &[u64], book: &[u32], n: usize, x: usize, k: usize
 
 // Slot k of node x holds a finite value.
 fn value(slots: &[u32], n: usize, x: usize, k: usize) -> bool
-    requires { ⌜ (n < 65536) × (length (now slots) ≡ 4096 + 64 * n) × (In n x k) ⌝ }
+    requires { ⌜ (Slotted n (now slots)) × (In n x k) ⌝ }
     ensures { λ r. ⌜ ((masks book : List ℕ) → r ≡ valueB (st n (now (slots .entry)) masks book) x k) ⌝ }
 {
     floats::finite_word(nodes::memory::word(slots, x, k))
@@ -197,7 +202,7 @@ fn branches(slots: &[u32], masks: &[u64], book: &[u32], n: usize, x: usize) -> b
 
 // The slots of a node that has values alone.
 fn values(slots: &[u32], n: usize, x: usize) -> bool
-    requires { ⌜ (n < 65536) × (length (now slots) ≡ 4096 + 64 * n) × (x < 8 + n) ⌝ }
+    requires { ⌜ (Slotted n (now slots)) × (x < 8 + n) ⌝ }
     ensures { λ r. ⌜ ((masks book : List ℕ) → r ≡ every (valueB (st n (now (slots .entry)) masks book) x) (wide x)) ⌝ }
 {
     let m = width(x);
@@ -246,7 +251,7 @@ pub fn sound(slots: &[u32], masks: &[u64], book: &[u32], n: usize) -> bool
     requires { ⌜ Sized n (now slots) (now masks) (now book) ⌝ }
     ensures { λ r. ⌜ r ≡ soundB n (st n (now (slots .entry)) (now (masks .entry)) (now (book .entry))) ⌝ }
 {
-    if n < place(book[8]) {
+    if n < cells::count(book) {
         return false;
     }
     if !all_marks(book) {

@@ -8,16 +8,15 @@ use nodes::walk::Ends;
 ghost use mathlib.Core.Path.{_≡_};
 ghost use mathlib.Core.Bool.{true};
 ghost use mathlib.Core.List.{List, [], _∷_};
-ghost use Prim.Native.Nat.{ℕ, _<_, _≤_};
+ghost use Prim.Native.Nat.{ℕ, _<_};
 ghost use Rattle.grid.specs.Geometry.{Point};
 ghost use Rattle.seats.specs.Call.{One, Lookup, Insert, Remove};
 ghost use Rattle.floats.specs.Value.{isFinite};
 ghost use Rattle.nodes.specs.Layout.{st, Sized};
 ghost use Rattle.nodes.specs.Change.{markS};
-ghost use Rattle.nodes.specs.Walk.{insertM, pointOf};
+ghost use Rattle.nodes.specs.Walk.{insertM, pointOf, voxelOf, voxels};
 ghost use Rattle.nodes.specs.Remove.{removeM};
 ghost use Rattle.nodes.specs.Range.{Booked};
-ghost use Rattle.means.proofs.Points.{voxelOf};
 ghost use Rattle.pool.specs.Answers.{memOf, Says, foundOf, codeOf, shownE, blockedE, insertBlocked, removeBlocked};
 
 // What a lookup answers.
@@ -39,6 +38,7 @@ fn shown(e: Ends) -> Found
 
 // The value of an active tile or voxel.
 pub fn lookup(slots: &[u32], masks: &[u64], book: &[u32], seat: u32, v: usize) -> Found
+    requires { ⌜ v < voxels ⌝ }
     ensures { λ r. ⌜ ((p : Point) → v ≡ voxelOf p → Says foundOf (One seat (Lookup p)) (memOf (now (slots .entry)) (now (masks .entry)) (now (book .entry))) r (memOf (now (slots .entry)) (now (masks .entry)) (now (book .entry)))) ⌝ }
 {
     let n = lengths::cells(slots.len(), masks.len(), book.len());
@@ -107,6 +107,7 @@ pub fn insert(
     v: usize,
     w: u32,
 ) -> u32
+    requires { ⌜ v < voxels ⌝ }
     ensures { λ r. ⌜ ((p : Point) → v ≡ voxelOf p → Says codeOf (One seat (Insert p w)) (memOf (now (slots .entry)) (now (masks .entry)) (now (book .entry))) r (memOf (now (slots .exit)) (now (masks .exit)) (now (book .exit)))) ⌝ }
 {
     let n = lengths::cells(slots.len(), masks.len(), book.len());
@@ -161,6 +162,7 @@ fn remove_unmark(
 
 // The voxel is hidden, a branch left empty on its path is released, and the seat is no longer filled.
 pub fn remove(slots: &mut [u32], masks: &mut [u64], book: &mut [u32], seat: u32, v: usize) -> u32
+    requires { ⌜ v < voxels ⌝ }
     ensures { λ r. ⌜ ((p : Point) → v ≡ voxelOf p → Says codeOf (One seat (Remove p)) (memOf (now (slots .entry)) (now (masks .entry)) (now (book .entry))) r (memOf (now (slots .exit)) (now (masks .exit)) (now (book .exit)))) ⌝ }
 {
     let n = lengths::cells(slots.len(), masks.len(), book.len());

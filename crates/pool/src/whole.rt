@@ -1,20 +1,24 @@
 // Preparing and counting the pool, and the calls that only read a seat. Preparing alone changes memory, and only once the lengths are known to belong together.
+use super::guard;
 use super::lengths;
-use super::test;
+use nodes::geometry::Top;
+use nodes::memory::COUNT;
+use nodes::memory::TOP_MASKS;
+use nodes::memory::TOP_WORDS;
 use nodes::walk;
 use nodes::walk::Ends;
 ghost use mathlib.Core.Path.{_≡_};
 ghost use mathlib.Core.Bool.{true};
 ghost use mathlib.Core.List.{List, [], _∷_};
-ghost use Prim.Native.Nat.{ℕ, _+_, _*_, _<_};
-ghost use lib.ListN.{length};
+ghost use Prim.Native.Nat.{ℕ, _<_};
 ghost use lib.Ieee.Scale.{finite};
 ghost use Rattle.grid.specs.Geometry.{Point};
 ghost use Rattle.grid.specs.Whole.{isEmpty};
 ghost use Rattle.seats.specs.Call.{One, Sign, IsEmpty, Prepare, Count};
 ghost use Rattle.nodes.specs.State.{tree};
 ghost use Rattle.nodes.specs.Layout.{st};
-ghost use Rattle.means.proofs.Points.{voxelOf};
+ghost use Rattle.nodes.specs.Range.{Masked};
+ghost use Rattle.nodes.specs.Walk.{voxelOf, voxels};
 ghost use Rattle.pool.specs.Answers.{memOf, Says, codeOf, countOf, whetherOf, finiteE, signedF, signedE};
 
 // Every cell is freed and every seat emptied, whatever the memory held. Answers 0, or 1 where the lengths do not belong together.
@@ -39,14 +43,11 @@ pub enum Free {
 pub fn count(slots: &[u32], masks: &[u64], book: &[u32]) -> Free
     ensures { λ r. ⌜ Says countOf Count (memOf (now (slots .entry)) (now (masks .entry)) (now (book .entry))) r (memOf (now (slots .entry)) (now (masks .entry)) (now (book .entry))) ⌝ }
 {
-    let n = lengths::cells(slots.len(), masks.len(), book.len());
-    if n == 0 {
-        return Free::Refused(1);
+    let no = guard::guard(slots, masks, book, 0);
+    if no != 0 {
+        return Free::Refused(no);
     }
-    if !test::sound(slots, masks, book, n) {
-        return Free::Refused(5);
-    }
-    Free::Cells(book[8])
+    Free::Cells(book[COUNT])
 }
 
 // What a question about a seat answers.
@@ -56,32 +57,27 @@ pub enum Whether {
 }
 
 // Both masks of the top of seat t are empty: no slot of it is a branch or an active tile. A top has 8 words in each mask, and the tops come first.
-fn both_empty(masks: &[u64], n: usize, t: usize) -> bool
-    requires { ⌜ (n < 65536) × (length (now masks) ≡ 128 + 2 * n) × (t < 8) ⌝ }
+pub fn both_empty(masks: &[u64], n: usize, t: usize) -> bool
+    requires { ⌜ (Masked n (now masks)) × (t < 8) ⌝ }
     ensures { λ r. ⌜ ((slots book : List ℕ) → r ≡ isEmpty 3 (2 ∷ 2 ∷ []) (tree 3 (2 ∷ 2 ∷ []) (st n slots (now (masks .entry)) book) t)) ⌝ }
 {
-    let a = 8 * t;
-    if !bitset::is_empty(&masks[a..a + 8], 512) {
+    let a = TOP_WORDS * t;
+    if !bitset::is_empty(&masks[a..a + TOP_WORDS], Top::SIZE) {
         return false;
     }
-    let b = 64 + n + a;
-    bitset::is_empty(&masks[b..b + 8], 512)
+    let b = TOP_MASKS + n + a;
+    bitset::is_empty(&masks[b..b + TOP_WORDS], Top::SIZE)
 }
 
 // Whether a seat is empty: a look at the masks of its top, once the whole pool is known to be sound.
 pub fn is_empty(slots: &[u32], masks: &[u64], book: &[u32], seat: u32) -> Whether
     ensures { λ r. ⌜ Says whetherOf (One seat IsEmpty) (memOf (now (slots .entry)) (now (masks .entry)) (now (book .entry))) r (memOf (now (slots .entry)) (now (masks .entry)) (now (book .entry))) ⌝ }
 {
+    let no = guard::guard(slots, masks, book, guard::one_given(seat, true));
+    if no != 0 {
+        return Whether::Refused(no);
+    }
     let n = lengths::cells(slots.len(), masks.len(), book.len());
-    if n == 0 {
-        return Whether::Refused(1);
-    }
-    if 7 < seat {
-        return Whether::Refused(2);
-    }
-    if !test::sound(slots, masks, book, n) {
-        return Whether::Refused(5);
-    }
     Whether::Is(both_empty(masks, n, seat as usize))
 }
 
@@ -110,6 +106,7 @@ fn signed_end(e: Ends, filled: bool) -> Whether
 
 // Whether the value at a voxel of a filled seat, active or hidden, is negative. A mark of 1 alone is set.
 pub fn sign(slots: &[u32], masks: &[u64], book: &[u32], seat: u32, v: usize) -> Whether
+    requires { ⌜ v < voxels ⌝ }
     ensures { λ r. ⌜ ((p : Point) → v ≡ voxelOf p → Says whetherOf (One seat (Sign p)) (memOf (now (slots .entry)) (now (masks .entry)) (now (book .entry))) r (memOf (now (slots .entry)) (now (masks .entry)) (now (book .entry)))) ⌝ }
 {
     let n = lengths::cells(slots.len(), masks.len(), book.len());

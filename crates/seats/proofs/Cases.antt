@@ -5,7 +5,7 @@ use mathlib.Core.List.{List, [], _∷_}
 use mathlib.Core.Option.{Option, none, some}
 use Prim.Native.Nat.{ℕ}
 use lib.IntN.{pos, negsuc}
-use lib.Ieee.{lt, le, eq, ofBits, fin, inf}
+use lib.Ieee.{lt, eq, ofBits, fin, inf}
 use Rattle.floats.specs.Value.{isFinite, negative, negated, far, farWith, equal, before, least, most}
 use Rattle.floats.specs.declared.Test.the-variants.{Below, Above}
 use Rattle.grid.specs.Combine.{union, subtract, intersect, underB, underA, joinedVoxels, combineS}

@@ -8,7 +8,6 @@ use lib.Dec.{eqb}
 use Rattle.grid.specs.Geometry.{Point}
 use Rattle.grid.specs.Node.{size, Proper}
 use Rattle.grid.specs.Voxel.{lookup, signAt}
-use Rattle.grid.specs.Whole.{cells, hollow}
 use Rattle.seats.specs.Call.{Lookup, Sign, Remove, Insert, Fill, Cut, Clear, Prune, Flip, FillSigns, IsEmpty, Call, One, Two, Prepare, Count, names, Answer, refused, found, negativeIs, emptyIs, freeCells, done}
 use Rattle.seats.specs.Refusal.{Reads, refusal}
 use Rattle.seats.specs.Seat.{State, used, free}

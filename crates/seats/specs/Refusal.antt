@@ -4,9 +4,7 @@ use mathlib.Core.List.{List, [], _∷_}
 use mathlib.Core.Option.{Option, none, some}
 use Prim.Native.Nat.{ℕ}
 use lib.Dec.{leb, eqb}
-use Rattle.grid.specs.Whole.{hollow}
 use Rattle.seats.specs.Call.{Call, names, onKind, asks}
-use Rattle.seats.specs.Seat.{free}
 
 pub record Reads : Type 0 where
   -- the lent lengths belong together for one cell count from 1 to 65,535

@@ -9,7 +9,7 @@ use Rattle.grid.specs.Geometry.{slotOf}
 use Rattle.grid.specs.Node.{put}
 use Rattle.grid.specs.SignFill.{fillSigns}
 use Rattle.grid.specs.Voxel.{lookup, signAt, insert, remove, needInsertS, needRemoveS}
-use Rattle.grid.specs.Whole.{fill, pruneS, cutS, flip, isEmpty, hollow, hasHollow}
+use Rattle.grid.specs.Whole.{fill, pruneS, cutS, flip, isEmpty, hasHollow}
 use Rattle.seats.specs.Call.{Act, Lookup, Sign, Remove, Insert, Fill, Cut, Clear, Prune, Flip, FillSigns, IsEmpty, Pair, Copy, Combine, Call, One, Two, Prepare, Count, Answer, refused, found, negativeIs, emptyIs, freeCells, done}
 use Rattle.seats.specs.Refusal.{Reads, refusal}
 use Rattle.seats.specs.Seat.{Seat, State, unmarked, marked, fresh, reached, free}

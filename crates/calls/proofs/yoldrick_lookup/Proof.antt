@@ -16,7 +16,7 @@ returns c =
     let p = pointAt (a .x) (a .y) (a .z) in
     let m = memOf (now (a .slots)) (now (a .masks)) (now (a .book)) in
     let e = voxel-same (toZ-ofZ (s .fits .x)) (toZ-ofZ (s .fits .y)) (toZ-ofZ (s .fits .z)) in
-    says-as foundOf answerF answerOf answer-same (One (a .seat) (Lookup p)) m m _ _ (c .before .lookup .ensures p (c .before .before .voxel .ensures ∙ e)) (c .answer .ensures)
+    says-as foundOf answerF answerOf answer-same (One (a .seat) (Lookup p)) m m _ _ (c .before .lookup .ensures p (c .before .before .voxel .ensures .0 ∙ e)) (c .answer .ensures)
 
 pub yoldrick-lookup-spec : {M : Type 1} → statement M
 yoldrick-lookup-spec = tie.close (tie.spec (λ c κs. search needs) (λ c κs. search needs) (λ c κs. search needs) returns)

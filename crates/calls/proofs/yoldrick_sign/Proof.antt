@@ -16,7 +16,7 @@ returns c =
     let p = pointAt (a .x) (a .y) (a .z) in
     let m = memOf (now (a .slots)) (now (a .masks)) (now (a .book)) in
     let e = voxel-same (toZ-ofZ (s .fits .x)) (toZ-ofZ (s .fits .y)) (toZ-ofZ (s .fits .z)) in
-    says-as whetherOf truthF truthAnswerOf truth-same (One (a .seat) (Sign p)) m m _ _ (c .before .sign .ensures p (c .before .before .voxel .ensures ∙ e)) (c .told .ensures)
+    says-as whetherOf truthF truthAnswerOf truth-same (One (a .seat) (Sign p)) m m _ _ (c .before .sign .ensures p (c .before .before .voxel .ensures .0 ∙ e)) (c .told .ensures)
 
 pub yoldrick-sign-spec : {M : Type 1} → statement M
 yoldrick-sign-spec = tie.close (tie.spec (λ c κs. search needs) (λ c κs. search needs) (λ c κs. search needs) returns)

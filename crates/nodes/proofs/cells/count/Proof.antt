@@ -1,4 +1,5 @@
 use native.Mathlib.Omega.{arith}
+use Rattle.nodes.specs.Layout.{countPlace}
 use borrow.Author.Needs.{needs}
 use Rattle.nodes.proofs.cells.count.Statement.{statement}
 use Rattle.nodes.proofs.cells.count.Tie as tie
@@ -7,7 +8,7 @@ shared-slice-read-result : tie.Need-shared-slice-read-result
 shared-slice-read-result c = search needs
 
 cast-result : tie.Need-cast-result
-cast-result c = omega (arith, c .shared-slice-known .given 8)
+cast-result c = omega (arith, c .shared-slice-known .given countPlace)
 
 returns : tie.Need-returns
 returns c = search needs

@@ -12,7 +12,7 @@ set-kid-requires : tie.Need-set-kid-requires
 set-kid-requires c κs = kid-may (c .before .before .before .before .before .before .before .pre .0) (c .before .before .before .before .before .before .before .pre .1)
 
 set-val-requires : tie.Need-set-val-requires
-set-val-requires c κs = let m = val-may (c .before .before .before .before .before .before .before .before .before .before .before .pre .0) (c .before .before .before .before .before .before .before .before .before .before .before .pre .1) in (m .0, c .before .before .before .set-kid .kept .0 ∙ m .1, m .2)
+set-val-requires c κs = let m = val-may (c .before .before .before .before .before .before .before .before .before .before .before .pre .0) (c .before .before .before .before .before .before .before .before .before .before .before .pre .1) in (record { most = m .0 .most; masks-fit = c .before .before .before .set-kid .kept .0 ∙ m .0 .masks-fit }, m .1)
 
 same-length : tie.Need-same-length
 same-length c = search needs

@@ -1,5 +1,5 @@
-use Prim.Native.Nat.{_+_}
 use native.Mathlib.Omega.{arith}
+use Rattle.nodes.specs.Layout.{stackPlace}
 use borrow.Author.Needs.{needs}
 use Rattle.nodes.proofs.cells.stacked.Statement.{statement}
 use Rattle.nodes.proofs.cells.stacked.Tie as tie
@@ -17,7 +17,7 @@ shared-slice-read-result : tie.Need-shared-slice-read-result
 shared-slice-read-result c = search needs
 
 cast-result : tie.Need-cast-result
-cast-result c = omega (arith, c .shared-slice-known .given (9 + c .before .args .n + c .before .args .i))
+cast-result c = omega (arith, c .shared-slice-known .given (stackPlace (c .before .args .n) (c .before .args .i)))
 
 returns : tie.Need-returns
 returns c = search needs

@@ -1,15 +1,10 @@
-use Prim.Native.Nat.{ℕ, _%_}
-use mathlib.Core.Path.{_≡_, sym, ap, _∙_}
 use native.Mathlib.Omega.{arith}
-use borrow.Author.Needs.{needs}
-use mir.Syntax.{w32, w64}
-use mir.Val.{SFits, toZ, ofZ}
+use mir.Syntax.{w32}
+use mir.Val.{SFits}
 use mir.Facts.{toZ-ofZ}
 use Rattle.nodes.proofs.Voxels.{wider, sum-fits, sum-up, sum-word, sum-low}
 use Rattle.nodes.proofs.geometry.masked7.Statement.{statement}
 use Rattle.nodes.proofs.geometry.masked7.Tie as tie
-use Rattle.nodes.proofs.geometry.masked7.Reads as reads
-use Rattle.nodes.proofs.geometry.masked7.Lts as lts
 
 cast-y : tie.Need-cast-y
 cast-y c =

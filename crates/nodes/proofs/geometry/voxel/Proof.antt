@@ -1,13 +1,11 @@
 use mathlib.Core.Path.{ap, _∙_}
+use native.Mathlib.Omega.{arith}
 use mir.Facts.{toZ-ofZ}
 use Rattle.grid.specs.Geometry.{masked}
 use Rattle.nodes.proofs.Voxels.{same-digits}
 use borrow.Author.Needs.{needs}
 use Rattle.nodes.proofs.geometry.voxel.Statement.{statement}
 use Rattle.nodes.proofs.geometry.voxel.Tie as tie
-use Rattle.nodes.proofs.geometry.voxel.Reads as reads
-use Rattle.nodes.proofs.geometry.voxel.Lts as lts
-use Rattle.nodes.proofs.geometry.masked7.Reads as masked7-reads
 
 masked7-requires : tie.Need-masked7-requires
 masked7-requires c κs = search needs
@@ -33,10 +31,15 @@ add-result-2 c = search needs
 returns : tie.Need-returns
 returns c =
     let g = c .before .before .before .good in
-    same-digits 16384 128
-    (c .before .before .masked7 .ensures .0 ∙ ap (masked 7) (toZ-ofZ (record { sfits = g .0 })))
-    (c .before .masked72 .ensures .0 ∙ ap (masked 7) (toZ-ofZ (record { sfits = g .1 .0 })))
-    (c .masked73 .ensures .0 ∙ ap (masked 7) (toZ-ofZ (record { sfits = g .1 .1 .0 })))
+    let a = c .before .before .masked7 .ensures in
+    let b = c .before .masked72 .ensures in
+    let d = c .masked73 .ensures in (
+      same-digits 16384 128
+          (a .0 ∙ ap (masked 7) (toZ-ofZ (record { sfits = g .0 })))
+          (b .0 ∙ ap (masked 7) (toZ-ofZ (record { sfits = g .1 .0 })))
+          (d .0 ∙ ap (masked 7) (toZ-ofZ (record { sfits = g .1 .1 .0 }))),
+      omega (arith, a .1, b .1, d .1),
+    )
 
 pub voxel-spec : {M : Type 1} → statement M
 voxel-spec =

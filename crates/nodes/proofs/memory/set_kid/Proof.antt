@@ -1,6 +1,6 @@
 use mathlib.Core.Path.{ap, _∙_}
 use mathlib.Core.Bool.{cond}
-use Prim.Native.Nat.{ℕ, _+_, _*_}
+use Prim.Native.Nat.{ℕ}
 use lib.Dec.{eqb}
 use Rattle.bitset.specs.Set.{bitOf}
 use borrow.Author.Needs.{needs}

@@ -35,7 +35,7 @@ remove-slot-in-requires : (t : ℕ) → remove-lts.Need-slot-in-requires (claims
 remove-slot-in-requires t c κs = c .before .before .before .pre .1 .1 .known
 
 remove-hide-requires : (t : ℕ) → remove-lts.Need-hide-requires (claims t) (remove-at t) remove.Post
-remove-hide-requires t c κs = (c .before .before .before .before .before .before .pre .1 .0 .most, c .before .before .before .before .before .before .pre .1 .0 .masks-fit, (slot-in _ (c .before .before .before .before .before .before .pre .1 .1) (c .before .before .slot-in .ensures)))
+remove-hide-requires t c κs = (record { most = c .before .before .before .before .before .before .pre .1 .0 .most; masks-fit = c .before .before .before .before .before .before .pre .1 .0 .masks-fit }, (slot-in _ (c .before .before .before .before .before .before .pre .1 .1) (c .before .before .slot-in .ensures)))
 
 remove-same-length : (t : ℕ) → remove-lts.Need-same-length (claims t) (remove-at t) remove.Post
 remove-same-length t c = c .before .before .hide .kept .0

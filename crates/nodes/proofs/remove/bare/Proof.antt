@@ -14,10 +14,10 @@ clear-requires : tie.Need-clear-requires
 clear-requires c κs = search needs
 
 returns : tie.Need-returns
-returns c = λ slots book. bare-no _ _ (c .before .before .before .args .level) (val-word slots _ book (c .before .before .before .pre .2) (c .before .clear .ensures)) (not-true _ (c .if1 .taken))
+returns c = λ slots book. bare-no _ _ (c .before .before .before .args .level) (val-word slots _ book (c .before .before .before .pre .1) (c .before .clear .ensures)) (not-true _ (c .if1 .taken))
 
 returns-2 : tie.Need-returns-2
-returns-2 c = λ slots book. bare-leaf _ _ (c .before .before .before .before .args .level) (val-word slots _ book (c .before .before .before .before .pre .2) (c .before .before .clear .ensures)) (not-false _ (c .before .if1 .left)) (c .if2 .taken)
+returns-2 c = λ slots book. bare-leaf _ _ (c .before .before .before .before .args .level) (val-word slots _ book (c .before .before .before .before .pre .1) (c .before .before .clear .ensures)) (not-false _ (c .before .if1 .left)) (c .if2 .taken)
 
 add-clear-3 : tie.Need-add-clear-3
 add-clear-3 c = search needs
@@ -26,7 +26,7 @@ clear-requires-2 : tie.Need-clear-requires-2
 clear-requires-2 c κs = search needs
 
 returns-3 : tie.Need-returns-3
-returns-3 c = λ slots book. bare-fork _ _ (c .before .before .before .before .before .args .level) (val-word slots _ book (c .before .before .before .before .before .pre .2) (c .before .before .before .clear .ensures)) (not-false _ (c .before .before .if1 .left)) (c .before .if2 .left) (kid-word slots _ book (c .before .before .before .before .before .pre .2) (c .clear2 .ensures))
+returns-3 c = λ slots book. bare-fork _ _ (c .before .before .before .before .before .args .level) (val-word slots _ book (c .before .before .before .before .before .pre .1) (c .before .before .before .clear .ensures)) (not-false _ (c .before .before .if1 .left)) (c .before .if2 .left) (kid-word slots _ book (c .before .before .before .before .before .pre .1) (c .clear2 .ensures))
 
 pub bare-spec : {M : Type 1} → statement M
 bare-spec =

@@ -1,6 +1,7 @@
 use native.Mathlib.Omega.{arith}
 use mathlib.Core.Path.{_≡_, _∙_}
 use Prim.Native.Nat.{_-_, _/_}
+use Rattle.nodes.specs.Layout.{tops}
 use Rattle.means.specs.Mem.{cellsOf}
 use Rattle.pool.proofs.Fits.{fit-is, fit-not}
 use borrow.Author.Needs.{needs}
@@ -44,7 +45,7 @@ returns-5 : tie.Need-returns-5
 returns-5 c m p q r = fit-not m (λ f. omega arith)
 
 returns-6 : tie.Need-returns-6
-returns-6 c m p q r = let e : (c .before .before .before .before .before .args .slots - 4096) / 64 ≡ cellsOf m = omega arith in
+returns-6 c m p q r = let e : (c .before .before .before .before .before .args .slots - tops) / 64 ≡ cellsOf m = omega arith in
     e ∙ fit-is m (record { some = omega arith; most = omega arith; slots = omega arith; masks = omega arith; book = omega arith })
 
 pub cells-spec : {M : Type 1} → statement M

@@ -26,7 +26,7 @@ slice-write-book c = search needs
 same-length : tie.Need-same-length
 same-length c =
     let b = c .before .before in
-    length-set (b .count-up2 .last .0) 8 _ ∙ b .count-up2 .ensures .long ∙ b .before .before .before .before .count-up .ensures .long ∙ b .before .before .before .before .before .before .before .before .fill .ensures .long
+    length-set (b .count-up2 .last .0) _ _ ∙ b .count-up2 .ensures .long ∙ b .before .before .before .before .count-up .ensures .long ∙ b .before .before .before .before .before .before .before .before .fill .ensures .long
 
 returns : tie.Need-returns
 returns c =

@@ -6,23 +6,20 @@ use native.Mathlib.Omega.{arith}
 use lib.ListN.{getD}
 use borrow.Author.Count.{below-none, below-more}
 use borrow.Author.Needs.{needs}
-use Rattle.nodes.specs.Layout.{st}
+use Rattle.nodes.specs.Layout.{st, countPlace}
 use Rattle.nodes.specs.Test.{stackedB}
 use Rattle.pool.proofs.Checks.{passed, failed, all-pass, one-fails}
 use Rattle.pool.proofs.test.all_stacked.Statement.{statement}
 use Rattle.pool.proofs.test.all_stacked.Tie as tie
 
 abbrev Inv-loop : tie.InvT-loop
-Inv-loop book n m i₀ i = (i ≤ getD book 8 0) × ((slots masks : List ℕ) (k : ℕ) → k < i → stackedB n (st n slots masks book) k ≡ true)
+Inv-loop book n m i₀ i = (i ≤ getD book countPlace 0) × ((slots masks : List ℕ) (k : ℕ) → k < i → stackedB n (st n slots masks book) k ≡ true)
 
 abbrev μ-loop : tie.MeasureT-loop
-μ-loop book n m i₀ i = getD book 8 0 - i
+μ-loop book n m i₀ i = getD book countPlace 0 - i
 
-shared-slice-read-place : tie.Need-shared-slice-read-place Inv-loop μ-loop
-shared-slice-read-place c = omega arith
-
-place-requires : tie.Need-place-requires Inv-loop μ-loop
-place-requires c κs = search needs
+count-requires : tie.Need-count-requires Inv-loop μ-loop
+count-requires c κs = search needs
 
 loop-holds : tie.Need-loop-holds Inv-loop μ-loop
 loop-holds c = (omega arith, λ slots masks. below-none _)
@@ -51,8 +48,7 @@ all-stacked-spec =
     (tie.spec
     Inv-loop
     μ-loop
-    shared-slice-read-place
-    place-requires
+    count-requires
     loop-holds
     stacked-requires
     returns

@@ -20,47 +20,38 @@ returns c =
     let s = w .before .before .before .before in
     link-out _ _ _ (s .pre .1) _ (c .before .place .ensures ∙ w .word .ensures) (c .if1 .taken)
 
-add-place : tie.Need-add-place
-add-place c = search needs
-
-mul-place : tie.Need-mul-place
-mul-place c = search needs
-
-shared-slice-read-place : tie.Need-shared-slice-read-place
-shared-slice-read-place c = search needs
-
-place-requires-2 : tie.Need-place-requires-2
-place-requires-2 c κs = search needs
+tag-requires : tie.Need-tag-requires
+tag-requires c κs = search needs
 
 mul-if2 : tie.Need-mul-if2
 mul-if2 c = search needs
 
 add-if2 : tie.Need-add-if2
 add-if2 c =
-    let s = c .before .before .before .before .before .before .before .before in
+    let s = c .before .before .before .before .before .before .before in
     omega (arith, wide-most (s .args .x))
 
 add-if2-2 : tie.Need-add-if2-2
 add-if2-2 c =
-    let s = c .before .before .before .before .before .before .before .before in
+    let s = c .before .before .before .before .before .before .before in
     omega (arith, wide-most (s .args .x))
 
 returns-2 : tie.Need-returns-2
 returns-2 c =
-    let w = c .before .before .before .before .before in
-    let s = w .before .before .before .before in
-    link-other _ _ _ (s .pre .1) _ (c .before .before .before .before .place .ensures ∙ w .word .ensures) (c .before .before .before .if1 .left) _ (c .before .place2 .ensures) (c .if2 .taken)
+    let p = c .before .before .before in
+    let s = p .before .before .before .before .before in
+    link-other _ _ _ (s .pre .1) _ (p .place .ensures ∙ p .before .word .ensures) (c .before .before .if1 .left) _ (c .before .tag .ensures) (c .if2 .taken)
 
 val-requires : tie.Need-val-requires
 val-requires c κs =
-    let s = c .before .before .before .before .before .before .before .before .before in
-    (s .pre .0 .most, s .pre .0 .masks-fit, placed (s .pre .0 .most) (s .pre .1) _ (omega arith))
+    let s = c .before .before .before .before .before .before .before .before in
+    (record { most = s .pre .0 .most; masks-fit = s .pre .0 .masks-fit }, placed (s .pre .0 .most) (s .pre .1) _ (omega arith))
 
 returns-3 : tie.Need-returns-3
 returns-3 c =
-    let w = c .before .before .before .before .before .before in
-    let s = w .before .before .before .before in
-    link-back _ _ _ (s .pre .1) _ (c .before .before .before .before .before .place .ensures ∙ w .word .ensures) (c .before .before .before .before .if1 .left) _ (c .before .before .place2 .ensures) (c .before .if2 .left) _ (c .val .ensures)
+    let p = c .before .before .before .before in
+    let s = p .before .before .before .before .before in
+    link-back _ _ _ (s .pre .1) _ (p .place .ensures ∙ p .before .word .ensures) (c .before .before .before .if1 .left) _ (c .before .before .tag .ensures) (c .before .if2 .left) _ (c .val .ensures)
 
 pub link-spec : {M : Type 1} → statement M
 link-spec =
@@ -69,10 +60,7 @@ link-spec =
     word-requires
     place-requires
     returns
-    add-place
-    mul-place
-    shared-slice-read-place
-    place-requires-2
+    tag-requires
     mul-if2
     add-if2
     add-if2-2

@@ -1,5 +1,4 @@
 use denote.Ref.{now}
-use Prim.Native.Nat.{_≤_}
 use native.Mathlib.Omega.{arith}
 use Rattle.seats.specs.Call.{One, Lookup}
 use Rattle.nodes.proofs.Paths.{top-stands}

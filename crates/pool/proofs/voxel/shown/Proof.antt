@@ -3,8 +3,6 @@ use Rattle.pool.specs.Answers.{shownE}
 use borrow.Author.Needs.{needs}
 use Rattle.pool.proofs.voxel.shown.Statement.{statement}
 use Rattle.pool.proofs.voxel.shown.Tie as tie
-use Rattle.pool.proofs.voxel.shown.Reads as reads
-use Rattle.pool.proofs.voxel.shown.Lts as lts
 
 -- src/voxel.rt:23:25
 enum-known-e : tie.Need-enum-known-e

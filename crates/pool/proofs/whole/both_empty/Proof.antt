@@ -25,7 +25,7 @@ is-empty-requires : tie.Need-is-empty-requires
 is-empty-requires c κs = search needs
 
 returns : tie.Need-returns
-returns c slots book = let s = c .before .before .before .before in kids-on _ slots _ book _ (s .pre .2) _ (c .before .is-empty .ensures) (c .if1 .taken)
+returns c slots book = let s = c .before .before .before .before in kids-on _ slots _ book _ (s .pre .1) _ (c .before .is-empty .ensures) (c .if1 .taken)
 
 add-b : tie.Need-add-b
 add-b c = search needs
@@ -54,7 +54,7 @@ is-empty-requires-2 c κs = search needs
 returns-2 : tie.Need-returns-2
 returns-2 c slots book =
     let k = c .before .before .before in
-    vals-say _ slots _ book _ (k .before .before .before .pre .2) _ (k .is-empty .ensures) (c .before .before .if1 .left) _ (c .is-empty2 .ensures)
+    vals-say _ slots _ book _ (k .before .before .before .pre .1) _ (k .is-empty .ensures) (c .before .before .if1 .left) _ (c .is-empty2 .ensures)
 
 pub both-empty-spec : {M : Type 1} → statement M
 both-empty-spec =

@@ -3,8 +3,6 @@ use Rattle.nodes.proofs.Voxels.{leaf-slot}
 use borrow.Author.Needs.{needs}
 use Rattle.nodes.proofs.geometry.Leaf.slot.Statement.{statement}
 use Rattle.nodes.proofs.geometry.Leaf.slot.Tie as tie
-use Rattle.nodes.proofs.geometry.Leaf.slot.Reads as reads
-use Rattle.nodes.proofs.geometry.Leaf.slot.Lts as lts
 
 mul-result : tie.Need-mul-result
 mul-result c = search needs

@@ -3,8 +3,6 @@ use Rattle.nodes.proofs.Voxels.{middle-slot}
 use borrow.Author.Needs.{needs}
 use Rattle.nodes.proofs.geometry.Middle.slot.Statement.{statement}
 use Rattle.nodes.proofs.geometry.Middle.slot.Tie as tie
-use Rattle.nodes.proofs.geometry.Middle.slot.Reads as reads
-use Rattle.nodes.proofs.geometry.Middle.slot.Lts as lts
 
 mul-result : tie.Need-mul-result
 mul-result c = search needs

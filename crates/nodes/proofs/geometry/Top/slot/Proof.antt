@@ -3,8 +3,6 @@ use Rattle.nodes.proofs.Voxels.{top-slot}
 use borrow.Author.Needs.{needs}
 use Rattle.nodes.proofs.geometry.Top.slot.Statement.{statement}
 use Rattle.nodes.proofs.geometry.Top.slot.Tie as tie
-use Rattle.nodes.proofs.geometry.Top.slot.Reads as reads
-use Rattle.nodes.proofs.geometry.Top.slot.Lts as lts
 
 mul-result : tie.Need-mul-result
 mul-result c = search needs

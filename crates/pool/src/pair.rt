@@ -1,0 +1,72 @@
+// The calls on two seats. Each tests what it was given and then the whole pool before it changes anything.
+use super::guard;
+use super::lengths;
+use super::whole;
+use nodes::cells;
+use trees::below;
+ghost use mathlib.Core.Path.{_≡_};
+ghost use mathlib.Core.Bool.{true};
+ghost use mathlib.Core.List.{[], _∷_};
+ghost use Prim.Native.Nat.{_<_};
+ghost use Rattle.seats.specs.Call.{Two, Copy};
+ghost use Rattle.seats.specs.Refusal.{refusal};
+ghost use Rattle.nodes.specs.Change.{markS};
+ghost use Rattle.nodes.specs.Layout.{st, Sized};
+ghost use Rattle.trees.specs.Copy.{copyM};
+ghost use Rattle.means.specs.Mem.{fits, readsIn};
+ghost use Rattle.pool.specs.Answers.{memOf, Says, codeOf};
+ghost use Rattle.pool.specs.Guard.{orNone, roomOf};
+
+// Refusal 8 or 9 of a copy, or 0: the target has to be empty, and the pool to have as many free cells as the source reaches.
+fn room(slots: &[u32], masks: &[u64], book: &[u32], from: u32, to: u32) -> u32
+    requires { ⌜ (fits (memOf (now slots) (now masks) (now book)) ≡ true) × (from < 8) × (to < 8) ⌝ }
+    ensures { λ r. ⌜ r ≡ roomOf (memOf (now (slots .entry)) (now (masks .entry)) (now (book .entry))) from to ⌝ }
+{
+    let n = lengths::cells(slots.len(), masks.len(), book.len());
+    if !whole::both_empty(masks, n, to as usize) {
+        return 8;
+    }
+    if cells::count(book) < below::reached(slots, masks, n, 2, from as usize) {
+        return 9;
+    }
+    0
+}
+
+// The number of a copy's refusal, or 0.
+fn copy_barred(slots: &[u32], masks: &[u64], book: &[u32], from: u32, to: u32) -> u32
+    ensures { λ r. ⌜ refusal (readsIn (memOf (now (slots .entry)) (now (masks .entry)) (now (book .entry)))) (Two Copy from to) ≡ orNone r ⌝ }
+{
+    let no = guard::guard(slots, masks, book, guard::two_given(from, to));
+    if no != 0 {
+        return no;
+    }
+    room(slots, masks, book, from, to)
+}
+
+fn copy_unmark(
+    slots: &mut [u32],
+    masks: &mut [u64],
+    book: &mut [u32],
+    n: usize,
+    from: usize,
+    to: usize,
+)
+    requires { ⌜ (Sized n (now slots) (now masks) (now book)) × (from < 8) × (to < 8) ⌝ }
+    ensures { λ _. ⌜ st n (now (slots .exit)) (now (masks .exit)) (now (book .exit)) ≡ markS to 0 (copyM 3 (2 ∷ 2 ∷ []) n from to (st n (now (slots .entry)) (now (masks .entry)) (now (book .entry)))) ⌝ }
+{
+    trees::copy::copy(slots, masks, book, n, 2, from, to);
+    cells::set_mark(book, to, 0);
+}
+
+// The second seat becomes what the first is, hidden values too, and is not filled.
+pub fn copy(slots: &mut [u32], masks: &mut [u64], book: &mut [u32], from: u32, to: u32) -> u32
+    ensures { λ r. ⌜ Says codeOf (Two Copy from to) (memOf (now (slots .entry)) (now (masks .entry)) (now (book .entry))) r (memOf (now (slots .exit)) (now (masks .exit)) (now (book .exit))) ⌝ }
+{
+    let no = copy_barred(slots, masks, book, from, to);
+    if no != 0 {
+        return no;
+    }
+    let n = lengths::cells(slots.len(), masks.len(), book.len());
+    copy_unmark(slots, masks, book, n, from as usize, to as usize);
+    0
+}

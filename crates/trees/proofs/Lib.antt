@@ -1,0 +1,8 @@
+-- The laws that belong to no one function.
+pub mod Slots
+pub mod Turns
+pub mod SignAt
+pub mod Rows
+pub mod Fills
+pub mod Counts
+pub mod Copies

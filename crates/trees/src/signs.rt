@@ -1,0 +1,167 @@
+// The sign fill: child first, then three rows in each node. A sign is true where it is negative.
+use super::slot;
+use nodes::geometry;
+use nodes::memory;
+use nodes::walk::Below;
+ghost use mathlib.Core.Path.{_≡_};
+ghost use mathlib.Core.List.{List};
+ghost use Prim.Native.Nat.{ℕ, _+_, _*_, _^_, _≤_};
+ghost use Rattle.grid.specs.Node.{size};
+ghost use Rattle.nodes.specs.Layout.{st};
+ghost use Rattle.nodes.specs.Range.{In, Stands, Cells};
+ghost use Rattle.nodes.specs.Walk.{branching, below};
+ghost use Rattle.trees.specs.Signs.{signS, behindS, startS, writeS, rowZ, rowY, rowsM, fillSignsM};
+
+// The sign of slot k of node x of a level: that of its word, or, where it leads to a cell, that of the cell's slot 0. The promise holds whatever the book, as do all of this
+// file.
+fn sign_of(slots: &[u32], masks: &[u64], n: usize, level: usize, x: usize, k: usize) -> bool
+    requires { ⌜ (Cells n (now slots) (now masks)) × (Stands n level x) × In n x k ⌝ }
+    ensures { λ r. ⌜ ((book : List ℕ) → r ≡ signS (below level) n (st n (now (slots .entry)) (now (masks .entry)) book) x k) ⌝ }
+{
+    if level == 0 {
+        return floats::negative_word(memory::word(slots, x, k));
+    }
+    let Below::Go(c) = slot::child(slots, masks, n, x, k) else {
+        return floats::negative_word(memory::word(slots, x, k));
+    };
+    sign_of(slots, masks, n, level - 1, 8 + c, 0)
+}
+
+// The sign behind slot k of node x, which is no branch and gets the sign before it.
+fn behind_flat(slots: &[u32], masks: &[u64], n: usize, x: usize, k: usize, before: bool) -> bool
+    requires { ⌜ (Cells n (now slots) (now masks)) × In n x k ⌝ }
+    ensures { λ r. ⌜ ((book : List ℕ) → r ≡ behindS (below 0) n (st n (now (slots .entry)) (now (masks .entry)) book) x k before) ⌝ }
+{
+    if memory::val(masks, n, x, k) {
+        return floats::negative_word(memory::word(slots, x, k));
+    }
+    before
+}
+
+// The sign behind slot k of node x of a level: a branch gives its last sign, that of its slot 63.
+fn behind(
+    slots: &[u32],
+    masks: &[u64],
+    n: usize,
+    level: usize,
+    x: usize,
+    k: usize,
+    before: bool,
+) -> bool
+    requires { ⌜ (Cells n (now slots) (now masks)) × (Stands n level x) × In n x k ⌝ }
+    ensures { λ r. ⌜ ((book : List ℕ) → r ≡ behindS (below level) n (st n (now (slots .entry)) (now (masks .entry)) book) x k before) ⌝ }
+{
+    if level == 0 {
+        return behind_flat(slots, masks, n, x, k, before);
+    }
+    let Below::Go(c) = slot::child(slots, masks, n, x, k) else {
+        return behind_flat(slots, masks, n, x, k, before);
+    };
+    sign_of(slots, masks, n, level - 1, 8 + c, 63)
+}
+
+// The sign of the first slot of node x of a level that is not hidden; positive where all are hidden.
+fn start(slots: &[u32], masks: &[u64], n: usize, level: usize, x: usize) -> bool
+    requires { ⌜ (Cells n (now slots) (now masks)) × Stands n level x ⌝ }
+    ensures { λ r. ⌜ ((book : List ℕ) → r ≡ startS (below level) n (st n (now (slots .entry)) (now (masks .entry)) book) x 0 (size (branching level))) ⌝ }
+{
+    let m = geometry::size_in(level);
+    let mut k = 0;
+    while k < m {
+        if !slot::hidden(masks, n, level, x, k) {
+            return sign_of(slots, masks, n, level, x, k);
+        }
+        k += 1;
+    }
+    false
+}
+
+// A hidden slot is written as far with the sign.
+fn write(slots: &mut [u32], masks: &[u64], n: usize, level: usize, x: usize, k: usize, sign: bool)
+    requires { ⌜ (Cells n (now slots) (now masks)) × In n x k ⌝ }
+    ensures { λ _. ⌜ ((book : List ℕ) → st n (now (slots .exit)) (now (masks .entry)) book ≡ writeS (below level) x k sign (st n (now (slots .entry)) (now (masks .entry)) book)) ⌝ }
+{
+    if slot::hidden(masks, n, level, x, k) {
+        slot::set_value(slots, n, x, k, floats::far_word(sign));
+    }
+}
+
+// The slots of a row of a node of a level.
+fn side_in(level: usize) -> usize
+    requires { ⌜ level ≤ 2 ⌝ }
+    ensures { λ r. ⌜ r ≡ 2 ^ branching level ⌝ }
+{
+    if level == 2 { 8 } else { 4 }
+}
+
+// The row of z from slot i of node x on: "k starts as j and slot (x,y,z) replaces it, else the hidden slot gets k".
+fn row_z(slots: &mut [u32], masks: &[u64], n: usize, level: usize, x: usize, i: usize, sign: bool)
+    requires { ⌜ (Cells n (now slots) (now masks)) × (Stands n level x) × (i + 2 ^ branching level ≤ size (branching level)) ⌝ }
+    ensures { λ _. ⌜ ((book : List ℕ) → st n (now (slots .exit)) (now (masks .entry)) book
+        ≡ rowZ (branching level) (below level) n x i sign (st n (now (slots .entry)) (now (masks .entry)) book)) ⌝ }
+{
+    let m = side_in(level);
+    let mut k = sign;
+    let mut z = 0;
+    while z < m {
+        let p = i + z;
+        k = behind(slots, masks, n, level, x, p, k);
+        write(slots, masks, n, level, x, p, k);
+        z += 1;
+    }
+}
+
+// The rows of y from slot i of node x on: "j starts as i and slot (x,y,0) replaces it".
+fn row_y(slots: &mut [u32], masks: &[u64], n: usize, level: usize, x: usize, i: usize, sign: bool)
+    requires { ⌜ (Cells n (now slots) (now masks)) × (Stands n level x) × (i + 2 ^ (2 * branching level) ≤ size (branching level)) ⌝ }
+    ensures { λ _. ⌜ ((book : List ℕ) → st n (now (slots .exit)) (now (masks .entry)) book
+        ≡ rowY (branching level) (below level) n x i sign (st n (now (slots .entry)) (now (masks .entry)) book)) ⌝ }
+{
+    let m = side_in(level);
+    let mut j = sign;
+    let mut y = 0;
+    while y < m {
+        let p = i + y * m;
+        j = behind(slots, masks, n, level, x, p, j);
+        row_z(slots, masks, n, level, x, p, j);
+        y += 1;
+    }
+}
+
+// All rows of node x of a level: "For each x in turn, slot (x,0,0) if not hidden replaces i".
+fn rows(slots: &mut [u32], masks: &[u64], n: usize, level: usize, x: usize)
+    requires { ⌜ (Cells n (now slots) (now masks)) × Stands n level x ⌝ }
+    ensures { λ _. ⌜ ((book : List ℕ) → st n (now (slots .exit)) (now (masks .entry)) book
+        ≡ rowsM (branching level) (below level) n x (st n (now (slots .entry)) (now (masks .entry)) book)) ⌝ }
+{
+    let m = side_in(level);
+    let w = m * m;
+    let mut i = start(slots, masks, n, level, x);
+    let mut a = 0;
+    while a < m {
+        let p = a * w;
+        i = behind(slots, masks, n, level, x, p, i);
+        row_y(slots, masks, n, level, x, p, i);
+        a += 1;
+    }
+}
+
+// The sign fill of node x of a level and of all that hangs below it.
+pub fn fill_signs(slots: &mut [u32], masks: &[u64], n: usize, level: usize, x: usize)
+    requires { ⌜ (Cells n (now slots) (now masks)) × Stands n level x ⌝ }
+    ensures { λ _. ⌜ ((book : List ℕ) → st n (now (slots .exit)) (now (masks .entry)) book
+        ≡ fillSignsM (branching level) (below level) n x (st n (now (slots .entry)) (now (masks .entry)) book)) ⌝ }
+{
+    if level == 0 {
+        rows(slots, masks, n, level, x);
+        return;
+    }
+    let m = geometry::size_in(level);
+    for k in 0..m {
+        let Below::Go(c) = slot::child(slots, masks, n, x, k) else {
+            continue;
+        };
+        fill_signs(slots, masks, n, level - 1, 8 + c);
+    }
+    rows(slots, masks, n, level, x);
+}
