@@ -7,6 +7,7 @@ pub mod Promise
 pub mod Runs
 pub mod Chains
 pub mod Rules
+pub mod SeatRules
 pub mod Table
 pub mod Proper
 pub mod Witness

@@ -26,7 +26,7 @@ use Rattle.seats.proofs.Promise.{sim}
 
 module _ (b : ℕ) (bs : List ℕ) where
   -- a call that is accepted is served
-  accepted : (c : Call) (f : ℕ → Seat b bs) (k : ℕ) → Accepted (play b bs c f k .0) → play b bs c f k ≡ served b bs c f k
+  pub accepted : (c : Call) (f : ℕ → Seat b bs) (k : ℕ) → Accepted (play b bs c f k .0) → play b bs c f k ≡ served b bs c f k
   accepted c f k = play-at b bs (λ o. Accepted (o .0) → o ≡ served b bs c f k) c f k (λ n e h. absurd h) (λ e h. refl)
 
   -- a lookup is never refused on a sound pool, and answers the seat's
@@ -114,15 +114,6 @@ module _ (b : ℕ) (bs : List ℕ) where
   combined-grid o n n' p = combined-sign p o bs (n (slotOf b bs p)) (n' (slotOf b bs p))
 
   module _ (𝓜 : Memory b bs) (i j : ℕ) (l : i < 8) (l' : j < 8) (d : j ≡ i → ⊥) (m m₁ : 𝓜 .Mem) (s : 𝓜 .Sound m) where
-    -- copy: lookups in the second seat are as they were in the first
-    pub copy-lookup : Promise b bs 𝓜 (Two Copy i j) m done m₁ → (q : Point) (r : Answer) (m' : 𝓜 .Mem) → Promise b bs 𝓜 (One j (Lookup q)) m₁ r m'
-        → r ≡ found (lookup (b ∷ bs) (𝓜 .state m .seat i .grid) q)
-    unfolding both
-    copy-lookup h q r m' h' =
-        let t = sim b bs 𝓜 (Two Copy i j) m done m₁ s h in
-        lookup-answer 𝓜 j l' m₁ m₁ (t .1) q r m' h'
-        ∙ ap (λ n. found (lookup (b ∷ bs) (n .grid) q)) (ap (λ o. o .1 .seat j) (t .0) ∙ seats-after Copy i j (𝓜 .state m) d (subst Accepted (ap (λ o. o .0) (t .0)) tt) .1)
-
     -- demand 2: the combined sign at every voxel, as the calls answer it
     pub combine-sign : (o : Operation) → Promise b bs 𝓜 (Two (Combine o) i j) m done m₁ → (p : Point) (r : Answer) (m' : 𝓜 .Mem) → Promise b bs 𝓜 (One i (Sign p)) m₁ r m'
         → r ≡ negativeIs (combinedSign o (signAt (b ∷ bs) (𝓜 .state m .seat i .grid) p) (signAt (b ∷ bs) (𝓜 .state m .seat j .grid) p))
