@@ -6,6 +6,7 @@ pub mod Laws
 pub mod Promise
 pub mod Runs
 pub mod Chains
+pub mod Asked
 pub mod Rules
 pub mod SeatRules
 pub mod Table
