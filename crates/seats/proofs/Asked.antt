@@ -21,7 +21,7 @@ use Rattle.seats.specs.Refusal.{Reads, order, refusal}
 use Rattle.seats.specs.Seat.{Seat, State, reached, used, free}
 use Rattle.seats.specs.Step.{act, readsOf, served, unless, play, step}
 use Rattle.seats.proofs.Laws.{play-at}
-use Rattle.seats.proofs.Names.{among-head}
+use Rattle.seats.proofs.Names.{not-above, among-head}
 use Rattle.seats.proofs.Promise.{put-own, sim}
 use Rattle.seats.proofs.Refusal.{all-pass, below-8}
 
@@ -109,15 +109,21 @@ module _ (b : ℕ) (bs : List ℕ) where
     counted k h = ap cellsIn (asked Count (freeCells k) h)
 
   module _ (𝓜 : Memory b bs) where
-    -- lookups that show the same are answered the same
-    pub same-lookup : (a : ℕ) (p : Point) (m m' : 𝓜 .Mem) → 𝓜 .Sound m → 𝓜 .Sound m' → lookup (b ∷ bs) (𝓜 .state m' .seat a .grid) p ≡ lookup (b ∷ bs) (𝓜 .state m .seat a .grid) p
+    -- lookups that show the same, if there is such a seat, are answered the same
+    pub same-lookup : (a : ℕ) (p : Point) (m m' : 𝓜 .Mem) → 𝓜 .Sound m → 𝓜 .Sound m'
+        → (a < 8 → lookup (b ∷ bs) (𝓜 .state m' .seat a .grid) p ≡ lookup (b ∷ bs) (𝓜 .state m .seat a .grid) p)
         → (r r' : Answer) → Answers b bs 𝓜 (One a (Lookup p)) m r → Answers b bs 𝓜 (One a (Lookup p)) m' r' → r' ≡ r
     same-lookup a p m m' s s' e r r' h h' =
         asked 𝓜 m' s' (One a (Lookup p)) r' h'
         ∙ lookup-says a p (𝓜 .state m')
-        ∙ ap (λ o. cond (leb 8 a) (refused 2) (found o)) e
+        ∙ go (leb 8 a) refl
         ∙ sym (lookup-says a p (𝓜 .state m))
         ∙ sym (asked 𝓜 m s (One a (Lookup p)) r h)
+      where
+        go : (x : Bool) → leb 8 a ≡ x
+            → cond x (refused 2) (found (lookup (b ∷ bs) (𝓜 .state m' .seat a .grid) p)) ≡ cond x (refused 2) (found (lookup (b ∷ bs) (𝓜 .state m .seat a .grid) p))
+        go true g = refl
+        go false g = ap found (e (not-above a g))
 
     -- ---- an accepted call on the whole pool
 
@@ -181,7 +187,7 @@ module _ (b : ℕ) (bs : List ℕ) where
       -- one that shows the same in its seat shows the same in every seat
       pub kept-lookup : (p : Point) → lookup (b ∷ bs) (act b bs x (𝓜 .state m .seat i) .1 .grid) p ≡ lookup (b ∷ bs) (𝓜 .state m .seat i .grid) p
           → (a : ℕ) (r r' : Answer) → Answers b bs 𝓜 (One a (Lookup p)) m r → Answers b bs 𝓜 (One a (Lookup p)) m' r' → r' ≡ r
-      kept-lookup p e a = same-lookup a p m m' (t .before) (t .after) (go (ℕ-discrete a i))
+      kept-lookup p e a = same-lookup a p m m' (t .before) (t .after) (λ _. go (ℕ-discrete a i))
         where
           go : Dec (a ≡ i) → lookup (b ∷ bs) (𝓜 .state m' .seat a .grid) p ≡ lookup (b ∷ bs) (𝓜 .state m .seat a .grid) p
           go (yes g) =

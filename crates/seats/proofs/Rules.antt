@@ -1,5 +1,5 @@
 -- The rules in calls on a sound pool: what lookups answer after an accepted call. Assumes nothing.
-use mathlib.Core.Path.{_≡_, refl, sym, _∙_, ap, subst}
+use mathlib.Core.Path.{_≡_, sym, _∙_, ap, subst}
 use mathlib.Core.Bool.{cond}
 use mathlib.Core.List.{List, _∷_}
 use mathlib.Core.Logic.{_⊎_, inl, inr}
@@ -17,7 +17,7 @@ use Rattle.grid.proofs.Places.{put-at, put-same}
 use Rattle.grid.proofs.Voxel.{InsertHere}
 use Rattle.seats.specs.Call.{Act, Lookup, Sign, Remove, Insert, Pair, Combine, One, Two, Answer, refused, found, negativeIs, done}
 use Rattle.seats.specs.Promise.{Accepted, Memory, Promise}
-use Rattle.seats.specs.Seat.{Seat, State, free}
+use Rattle.seats.specs.Seat.{State, free}
 use Rattle.seats.specs.Step.{act, both, served, step}
 use Rattle.seats.proofs.Asked.{accepted, lookup-call, sign-call}
 use Rattle.seats.proofs.Promise.{sim}
