@@ -16,7 +16,7 @@ use Rattle.grid.specs.Voxel.{lookup, signAt}
 use Rattle.grid.specs.Whole.{isEmpty, hasHollow}
 use Rattle.grid.proofs.Places.{put-at, put-same, sum-put}
 use Rattle.seats.specs.Call.{Act, Lookup, Sign, Flip, FillSigns, IsEmpty, Call, One, Count, Kind, wholePool, onKind, asks, Answer, refused, found, negativeIs, emptyIs, freeCells, done}
-use Rattle.seats.specs.Promise.{Accepted, Memory, grants, refuseOr, Keeps, Turns, Answers}
+use Rattle.seats.specs.Promise.{Accepted, Memory, grants, refuseOr, Keeps, Turns, Answers, Counts}
 use Rattle.seats.specs.Refusal.{Reads, order, refusal}
 use Rattle.seats.specs.Seat.{Seat, State, reached, used, free}
 use Rattle.seats.specs.Step.{act, readsOf, served, unless, play, step}
@@ -104,7 +104,7 @@ module _ (b : ℕ) (bs : List ℕ) where
     unfolding shownIn
     shown i l p o h = sym (ap shownIn (asked (One i (Lookup p)) (found o) h ∙ lookup-call i l (𝓜 .state m) p))
 
-    pub counted : (k : ℕ) → Answers b bs 𝓜 Count m (freeCells k) → k ≡ free b bs (𝓜 .state m)
+    pub counted : (k : ℕ) → Counts b bs 𝓜 m k → k ≡ free b bs (𝓜 .state m)
     unfolding cellsIn step play served
     counted k h = ap cellsIn (asked Count (freeCells k) h)
 

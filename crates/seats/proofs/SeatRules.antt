@@ -26,8 +26,8 @@ use Rattle.grid.proofs.SignFill.{fillSigns-lookup, fillSigns-twice, fillSigns-i
 use Rattle.grid.proofs.Voxel.{active-sign}
 use Rattle.grid.proofs.Whole as grid
 use Rattle.grid.proofs.Whole.{through, uncut}
-use Rattle.seats.specs.Call.{Lookup, Sign, Fill, Cut, Clear, Prune, Flip, FillSigns, IsEmpty, Copy, Call, One, Two, Count, names, Answer, refused, found, negativeIs, emptyIs, freeCells, done}
-use Rattle.seats.specs.Promise.{among, Memory, Promise, Turns, Answers}
+use Rattle.seats.specs.Call.{Lookup, Sign, Fill, Cut, Clear, Prune, Flip, FillSigns, IsEmpty, Copy, Call, One, Two, names, Answer, refused, found, negativeIs, emptyIs, freeCells, done}
+use Rattle.seats.specs.Promise.{among, Memory, Promise, Turns, Answers, Counts, LooksAlike}
 use Rattle.seats.specs.Refusal.{order}
 use Rattle.seats.specs.Seat.{Seat, State, unmarked, marked, fresh, reached, used, free}
 use Rattle.seats.specs.Step.{act, both, needTwo, served, unless, play, step}
@@ -63,7 +63,7 @@ module _ (b : ℕ) (bs : List ℕ) (𝓜 : Memory b bs) where
 
   -- so lookups in it are answered as before
   pub others-lookup : (c : Call) (m m' : 𝓜 .Mem) (r₀ : Answer) → 𝓜 .Sound m → Promise b bs 𝓜 c m r₀ m' → (a : ℕ) → among a (names c) ≡ false
-      → (p : Point) (r r' : Answer) → Answers b bs 𝓜 (One a (Lookup p)) m r → Answers b bs 𝓜 (One a (Lookup p)) m' r' → r' ≡ r
+      → LooksAlike b bs 𝓜 m a m' a
   others-lookup c m m' r₀ s h a n p =
       same-lookup b bs 𝓜 a p m m' s (sim b bs 𝓜 c m r₀ m' s h .1) (λ l. ap (λ t. lookup (b ∷ bs) (t .grid) p) (others-stay c m m' r₀ s h a l n))
 
@@ -82,7 +82,7 @@ module _ (b : ℕ) (bs : List ℕ) (𝓜 : Memory b bs) where
     seat-after = own-seat b bs 𝓜 i FillSigns m m' t
 
     -- "It keeps active values": every lookup in every seat is answered as before
-    pub fill-signs-lookup : (a : ℕ) (p : Point) (r r' : Answer) → Answers b bs 𝓜 (One a (Lookup p)) m r → Answers b bs 𝓜 (One a (Lookup p)) m' r' → r' ≡ r
+    pub fill-signs-lookup : (a : ℕ) → LooksAlike b bs 𝓜 m a m' a
     unfolding act
     fill-signs-lookup a p = kept-lookup b bs 𝓜 i FillSigns m m' t p (fillSigns-lookup (b ∷ bs) (𝓜 .state m .seat i .grid) p) a
 
@@ -92,9 +92,9 @@ module _ (b : ℕ) (bs : List ℕ) (𝓜 : Memory b bs) where
     fill-signs-sign = (
       ap (λ s. s .filled) seat-after,
       (λ p r k.
-      asked b bs 𝓜 m' (t .after) (One i (Sign p)) r k
-      ∙ sign-call b bs i (below b bs 𝓜 i FillSigns m m' t) (𝓜 .state m') p
-      ∙ ap (λ s. cond (s .filled) (negativeIs (signAt (b ∷ bs) (s .grid) p)) (refused 6)) seat-after),
+          asked b bs 𝓜 m' (t .after) (One i (Sign p)) r k
+          ∙ sign-call b bs i (below b bs 𝓜 i FillSigns m m' t) (𝓜 .state m') p
+          ∙ ap (λ s. cond (s .filled) (negativeIs (signAt (b ∷ bs) (s .grid) p)) (refused 6)) seat-after),
     )
 
     -- where a lookup shows a value, the sign is the value's
@@ -136,7 +136,7 @@ module _ (b : ℕ) (bs : List ℕ) (𝓜 : Memory b bs) where
         ∙ sym (asked b bs 𝓜 m (t .before) (One i IsEmpty) r k)
 
     -- no cell is taken or released
-    pub fill-signs-free : (k k' : ℕ) → Answers b bs 𝓜 Count m (freeCells k) → Answers b bs 𝓜 Count m' (freeCells k') → k' ≡ k
+    pub fill-signs-free : (k k' : ℕ) → Counts b bs 𝓜 m k → Counts b bs 𝓜 m' k' → k' ≡ k
     unfolding act reached
     fill-signs-free k k' q q' =
         omega (
@@ -175,7 +175,7 @@ module _ (b : ℕ) (bs : List ℕ) (𝓜 : Memory b bs) where
         ∙ put-at (λ s. s ≡ 𝓜 .state m .seat a) (𝓜 .state m .seat) j (unmarked b bs (𝓜 .state m .seat i .grid)) a (λ e. absurd (d e)) (λ _. refl)
 
     -- a lookup in the target is answered as it was in the source
-    pub copy-lookup : (p : Point) (r r' : Answer) → Answers b bs 𝓜 (One i (Lookup p)) m r → Answers b bs 𝓜 (One j (Lookup p)) m' r' → r' ≡ r
+    pub copy-lookup : LooksAlike b bs 𝓜 m i m' j
     copy-lookup p r r' k k' =
         asked b bs 𝓜 m' (c .after) (One j (Lookup p)) r' k'
         ∙ lookup-call b bs j (in-range .1) (𝓜 .state m') p
@@ -184,7 +184,7 @@ module _ (b : ℕ) (bs : List ℕ) (𝓜 : Memory b bs) where
         ∙ sym (asked b bs 𝓜 m (c .before) (One i (Lookup p)) r k)
 
     -- and in every other seat as before
-    pub copy-others-lookup : (a : ℕ) → (a ≡ j → ⊥) → (p : Point) (r r' : Answer) → Answers b bs 𝓜 (One a (Lookup p)) m r → Answers b bs 𝓜 (One a (Lookup p)) m' r' → r' ≡ r
+    pub copy-others-lookup : (a : ℕ) → (a ≡ j → ⊥) → LooksAlike b bs 𝓜 m a m' a
     copy-others-lookup a d p = same-lookup b bs 𝓜 a p m m' (c .before) (c .after) (λ _. ap (λ s. lookup (b ∷ bs) (s .grid) p) (copy-others a d))
 
     -- once both are filled, they have the same sign at every voxel
@@ -213,7 +213,7 @@ module _ (b : ℕ) (bs : List ℕ) (𝓜 : Memory b bs) where
         source = other-seat b bs 𝓜 j FillSigns m₂ m₃ t₃ i (λ e. apart (sym e)) ∙ seat-after i m' m₂ h₂
 
     -- "needs as many cells as the first seat reaches"
-    pub copy-free : (k k' : ℕ) → Answers b bs 𝓜 Count m (freeCells k) → Answers b bs 𝓜 Count m' (freeCells k') → k' + reached b bs (𝓜 .state m .seat i) ≡ k
+    pub copy-free : (k k' : ℕ) → Counts b bs 𝓜 m k → Counts b bs 𝓜 m' k' → k' + reached b bs (𝓜 .state m .seat i) ≡ k
     unfolding free used reached
     copy-free k k' q q' =
         omega (
@@ -230,7 +230,7 @@ module _ (b : ℕ) (bs : List ℕ) (𝓜 : Memory b bs) where
 
   -- on a sound pool, seats that differ, an empty target: 9 exactly if fewer cells are free than the first seat reaches
   pub copy-needs : (i j : ℕ) → i < 8 → j < 8 → (j ≡ i → ⊥) → (m : 𝓜 .Mem) → 𝓜 .Sound m → isEmpty b bs (𝓜 .state m .seat j .grid) ≡ true
-      → (k : ℕ) → Answers b bs 𝓜 Count m (freeCells k) → (r : Answer) → Answers b bs 𝓜 (Two Copy i j) m r → r ≡ cond (leb (reached b bs (𝓜 .state m .seat i)) k) done (refused 9)
+      → (k : ℕ) → Counts b bs 𝓜 m k → (r : Answer) → Answers b bs 𝓜 (Two Copy i j) m r → r ≡ cond (leb (reached b bs (𝓜 .state m .seat i)) k) done (refused 9)
   unfolding step play served both needTwo
   copy-needs i j l l' d m s e k q r h =
       asked b bs 𝓜 m s (Two Copy i j) r h
@@ -315,7 +315,7 @@ module _ (b : ℕ) (bs : List ℕ) (𝓜 : Memory b bs) where
         ∙ sym (empty-call b bs i l (𝓜 .state m))
         ∙ sym (asked b bs 𝓜 m (f .before) (One i IsEmpty) r k)
 
-    pub flip-free : (k k' : ℕ) → Answers b bs 𝓜 Count m (freeCells k) → Answers b bs 𝓜 Count m' (freeCells k') → k' ≡ k
+    pub flip-free : (k k' : ℕ) → Counts b bs 𝓜 m k → Counts b bs 𝓜 m' k' → k' ≡ k
     unfolding act reached
     flip-free k k' q q' =
         omega (
@@ -333,7 +333,7 @@ module _ (b : ℕ) (bs : List ℕ) (𝓜 : Memory b bs) where
     pruned = turned b bs 𝓜 (One i Prune) m m' refl h
 
     -- every lookup in every seat is answered as before
-    pub prune-lookup : (a : ℕ) (p : Point) (r r' : Answer) → Answers b bs 𝓜 (One a (Lookup p)) m r → Answers b bs 𝓜 (One a (Lookup p)) m' r' → r' ≡ r
+    pub prune-lookup : (a : ℕ) → LooksAlike b bs 𝓜 m a m' a
     unfolding act lookup
     prune-lookup a p = kept-lookup b bs 𝓜 i Prune m m' pruned p (grid.prune-lookup p bs (𝓜 .state m .seat i .grid (slotOf b bs p))) a
 
@@ -345,7 +345,7 @@ module _ (b : ℕ) (bs : List ℕ) (𝓜 : Memory b bs) where
         (e, fill-accepted i (below b bs 𝓜 i Prune m m' pruned) m' (pruned .after) e)
 
     -- no cell is taken
-    pub prune-free : (k k' : ℕ) → Answers b bs 𝓜 Count m (freeCells k) → Answers b bs 𝓜 Count m' (freeCells k') → k ≤ k'
+    pub prune-free : (k k' : ℕ) → Counts b bs 𝓜 m k → Counts b bs 𝓜 m' k' → k ≤ k'
     unfolding act reached
     prune-free k k' q q' =
         omega (
@@ -375,7 +375,7 @@ module _ (b : ℕ) (bs : List ℕ) (𝓜 : Memory b bs) where
         let e = ap (λ s. hasHollow b bs (s .grid)) (own-seat b bs 𝓜 i (Cut x) m m' cuts) ∙ grid.cut-none-hollow b bs (passes x) (𝓜 .state m .seat i .grid) in
         (e, fill-accepted i (below b bs 𝓜 i (Cut x) m m' cuts) m' (cuts .after) e)
 
-    pub cut-free : (k k' : ℕ) → Answers b bs 𝓜 Count m (freeCells k) → Answers b bs 𝓜 Count m' (freeCells k') → k ≤ k'
+    pub cut-free : (k k' : ℕ) → Counts b bs 𝓜 m k → Counts b bs 𝓜 m' k' → k ≤ k'
     unfolding act reached
     cut-free k k' q q' =
         omega (
@@ -402,7 +402,7 @@ module _ (b : ℕ) (bs : List ℕ) (𝓜 : Memory b bs) where
         ∙ ap found (grid.fill-lookup p b bs v)
 
     -- "releases all branches": what the seat reached is free again
-    pub fill-free : (k k' : ℕ) → Answers b bs 𝓜 Count m (freeCells k) → Answers b bs 𝓜 Count m' (freeCells k') → k' ≡ k + reached b bs (𝓜 .state m .seat i)
+    pub fill-free : (k k' : ℕ) → Counts b bs 𝓜 m k → Counts b bs 𝓜 m' k' → k' ≡ k + reached b bs (𝓜 .state m .seat i)
     unfolding act reached fill
     fill-free k k' q q' =
         omega (
@@ -439,7 +439,7 @@ module _ (b : ℕ) (bs : List ℕ) (𝓜 : Memory b bs) where
         ∙ ap emptyIs (every-all isHidden (size b) (clear b bs) (λ _. refl))
 
     -- what the seat reached is free again
-    pub clear-free : (k k' : ℕ) → Answers b bs 𝓜 Count m (freeCells k) → Answers b bs 𝓜 Count m' (freeCells k') → k' ≡ k + reached b bs (𝓜 .state m .seat i)
+    pub clear-free : (k k' : ℕ) → Counts b bs 𝓜 m k → Counts b bs 𝓜 m' k' → k' ≡ k + reached b bs (𝓜 .state m .seat i)
     unfolding act
     clear-free k k' q q' =
         omega (
