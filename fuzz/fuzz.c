@@ -1,7 +1,8 @@
 /* fuzz SEED CALLS SECONDS: the calls of yoldrick.h on arbitrary, damaged and worked-on memory. Ends when so many calls were made and so many seconds have passed.
 
    Each lent array ends at a page that cannot be touched, or begins after one. An episode is one filling of the arrays and some calls on them; it depends on the seed and
-   its number alone. Each answer and each refusal is foretold from document 01, on any memory, by a second reading of the layout:
+   its number alone. Each answer and each refusal is foretold from document 01, on any memory, and so is all that a sound pool stands for after a call, by a second
+   reading of the layout:
 
        slots   eight tops of 512, then 64 a cell
        masks   branches: 8 words a top, 1 a cell; then active values: the same; bit 0 is the highest
@@ -19,15 +20,34 @@
 
 #include "yoldrick.h"
 
-enum { PREPARE, FREE_CELLS, IS_EMPTY, LOOKUP, SIGN, INSERT, REMOVE, FILL, CLEAR, KINDS };
+enum { PREPARE, FREE_CELLS, IS_EMPTY, LOOKUP, SIGN, INSERT, REMOVE, FILL, CLEAR, PRUNE, CUT_BELOW, CUT_ABOVE, CUT_BETWEEN, FLIP, FILL_SIGNS, COPY, KINDS };
 enum { SLOTS, MASKS, BOOK, PARTS };
 enum { CODES = 11, MOST = 65536, VOXELS = 256 };
 
-static const char *const names[KINDS] = {"prepare", "free_cells", "is_empty", "lookup", "sign", "insert", "remove", "fill", "clear"};
-
 /* The codes of each call, from yoldrick.h: no other may be given, and each must have been seen at the end. */
-static const char *const codes[KINDS] = {"\0\1", "\0\1\5", "\0\1\2\5", "\0\1\2\5\12", "\0\1\2\5\6", "\0\1\2\4\5\11", "\0\1\2\5\11", "\0\1\2\4\5", "\0\1\2\5"};
-static const size_t codes_count[KINDS] = {2, 3, 4, 5, 5, 6, 5, 5, 4};
+enum { C0 = 1 << 0, C1 = 1 << 1, C2 = 1 << 2, C3 = 1 << 3, C4 = 1 << 4, C5 = 1 << 5, C6 = 1 << 6, C7 = 1 << 7, C8 = 1 << 8, C9 = 1 << 9, C10 = 1 << 10 };
+
+static const struct {
+    const char *name;
+    uint32_t codes;
+} kinds[KINDS] = {
+    [PREPARE] = {"prepare", C0 | C1},
+    [FREE_CELLS] = {"free_cells", C0 | C1 | C5},
+    [IS_EMPTY] = {"is_empty", C0 | C1 | C2 | C5},
+    [LOOKUP] = {"lookup", C0 | C1 | C2 | C5 | C10},
+    [SIGN] = {"sign", C0 | C1 | C2 | C5 | C6},
+    [INSERT] = {"insert", C0 | C1 | C2 | C4 | C5 | C9},
+    [REMOVE] = {"remove", C0 | C1 | C2 | C5 | C9},
+    [FILL] = {"fill", C0 | C1 | C2 | C4 | C5},
+    [CLEAR] = {"clear", C0 | C1 | C2 | C5},
+    [PRUNE] = {"prune", C0 | C1 | C2 | C5},
+    [CUT_BELOW] = {"cut_below", C0 | C1 | C2 | C4 | C5},
+    [CUT_ABOVE] = {"cut_above", C0 | C1 | C2 | C4 | C5},
+    [CUT_BETWEEN] = {"cut_between", C0 | C1 | C2 | C4 | C5},
+    [FLIP] = {"flip", C0 | C1 | C2 | C5},
+    [FILL_SIGNS] = {"fill_signs", C0 | C1 | C2 | C5 | C7},
+    [COPY] = {"copy", C0 | C1 | C2 | C3 | C5 | C8 | C9},
+};
 
 /* A lent array: the room between two guard pages, the part of it that is lent, and what that held after the last call. */
 typedef struct {
@@ -39,11 +59,12 @@ typedef struct {
     unsigned char *copy;
 } part;
 
+/* The bits are those of a value, or of a bound; a cut between two has a second one. A copy has a second seat. */
 typedef struct {
     int kind;
-    uint32_t seat;
+    uint32_t seat, to;
     int32_t x, y, z;
-    uint32_t bits;
+    uint32_t bits, high;
 } call;
 
 typedef struct {
@@ -63,19 +84,23 @@ static uint64_t seed, episode;
 static const char *memory;
 static call now;
 
-/* The cells that the lent counts belong to, or 0; and whether all since the last accepted prepare is in the model. */
+/* The cells that the lent counts belong to, or 0; whether every accepted call is looked at for what it leaves; and whether all since the last accepted prepare is in the
+   model. */
 static uint32_t cells;
-static bool modelled, tiled;
+static bool watched, modelled;
 static voxel model[VOXELS];
 static size_t model_count;
 static uint32_t used;
+
+/* Of each seat in the model: whether it is filled with signs, and whether an odd number of flips came since. */
+static bool filled[8], turned[8];
 
 /* The points and the seat that an episode comes back to. */
 static uint32_t hot_point[4], hot_seat;
 
 static uint64_t state;
 
-static const uint32_t FAR = 0x7f7fffffu;
+static const uint32_t FAR = 0x7f7fffffu, MINUS = 0x80000000u;
 
 static uint64_t any(void) {
     state += 0x9e3779b97f4a7c15u;
@@ -93,9 +118,9 @@ static uint64_t *masks(void) { return parts[MASKS].at; }
 static uint32_t *book(void) { return parts[BOOK].at; }
 
 static void tell(const char *what) {
-    fprintf(stderr, "fuzz: FAILED: %s\n  seed %llu, episode %llu (%s), %llu calls made\n  counts %zu %zu %zu, cells %u, %s seat %u at (%d, %d, %d) bits %08x\n", what,
+    fprintf(stderr, "fuzz: FAILED: %s\n  seed %llu, episode %llu (%s), %llu calls made\n  counts %zu %zu %zu, cells %u, %s seat %u to %u at (%d, %d, %d) bits %08x %08x\n", what,
             (unsigned long long)seed, (unsigned long long)episode, memory, (unsigned long long)made, parts[SLOTS].count, parts[MASKS].count, parts[BOOK].count,
-            (unsigned)cells, names[now.kind], (unsigned)now.seat, (int)now.x, (int)now.y, (int)now.z, (unsigned)now.bits);
+            (unsigned)cells, kinds[now.kind].name, (unsigned)now.seat, (unsigned)now.to, (int)now.x, (int)now.y, (int)now.z, (unsigned)now.bits, (unsigned)now.high);
 }
 
 static void fail(const char *what) {
@@ -191,17 +216,24 @@ static uint32_t slot_of(uint32_t point, uint32_t shift, uint32_t bits) {
     return (point >> (14 + shift) & m) << (2 * bits) | (point >> (7 + shift) & m) << bits | (point >> shift & m);
 }
 
-static uint32_t word_at(view m, uint32_t node, uint32_t k) { return m.slots[(node < 8 ? 512 * (size_t)node : 4096 + 64 * (size_t)(node - 8)) + k]; }
+static uint32_t slot_at(uint32_t point, uint32_t level) { return level == 2 ? slot_of(point, 4, 3) : slot_of(point, 2 * level, 2); }
+
+static uint32_t wide(uint32_t level) { return level == 2 ? 512 : 64; }
+
+/* The place of a node's slot 0 among the words, and among the bits of either mask. */
+static size_t place_of(uint32_t node) { return node < 8 ? 512 * (size_t)node : 4096 + 64 * (size_t)(node - 8); }
+
+static uint32_t word_at(view m, uint32_t node, uint32_t k) { return m.slots[place_of(node) + k]; }
 
 static bool bit_at(view m, bool active, uint32_t node, uint32_t k) {
-    size_t word = (active ? 64 + (size_t)cells : 0) + (node < 8 ? 8 * node + k / 64 : 64 + (node - 8));
-    return m.masks[word] >> (63 - k % 64) & 1;
+    size_t place = place_of(node) + k;
+    return m.masks[(active ? 64 + cells : 0) + place / 64] >> (63 - place % 64) & 1;
 }
 
 static end walk(view m, uint32_t seat, uint32_t point) {
     uint32_t node = seat;
     for (uint32_t level = 2;; level--) {
-        uint32_t k = level == 2 ? slot_of(point, 4, 3) : slot_of(point, 2 * level, 2), word = word_at(m, node, k);
+        uint32_t k = slot_at(point, level), word = word_at(m, node, k);
         bool active = bit_at(m, true, node, k);
         if (level == 0 || !bit_at(m, false, node, k))
             return (end){!finite_word(word), active, level, word};
@@ -211,7 +243,20 @@ static end walk(view m, uint32_t seat, uint32_t point) {
     }
 }
 
-static bool equal_values(uint32_t a, uint32_t b) { return a == b || ((a | b) << 1) == 0; }
+/* Finite words in the order of their numbers. The two zeros are equal. */
+static int64_t number(uint32_t w) { return w & MINUS ? -(int64_t)(w ^ MINUS) : (int64_t)w; }
+
+static bool equal_values(uint32_t a, uint32_t b) { return number(a) == number(b); }
+
+/* The call is a cut, and this value is one that it hides. */
+static bool cuts(const call *c, uint32_t w) {
+    switch (c->kind) {
+    case CUT_BELOW: return number(w) < number(c->bits);
+    case CUT_ABOVE: return number(w) > number(c->bits);
+    case CUT_BETWEEN: return number(w) >= number(c->bits) && number(w) <= number(c->high);
+    default: return false;
+    }
+}
 
 /* 0 if so many free cells can be had as the memory records them, or the refusal. */
 static uint32_t afford(view m, uint32_t need) {
@@ -235,7 +280,7 @@ static bool hold(view m, uint32_t cell, uint32_t use) {
 }
 
 static bool sound_node(view m, uint32_t node, uint32_t level) {
-    for (uint32_t k = 0; k < (level == 2 ? 512u : 64u); k++) {
+    for (uint32_t k = 0; k < wide(level); k++) {
         uint32_t word = word_at(m, node, k);
         if (level == 0 || !bit_at(m, false, node, k)) {
             if (!finite_word(word))
@@ -264,18 +309,185 @@ static bool sound(view m) {
     return memchr(held, 0, cells * sizeof *held) == NULL;
 }
 
-static bool empty_seat(view m, uint32_t seat) {
-    for (uint32_t k = 0; k < 512; k++)
-        if (bit_at(m, false, seat, k) || bit_at(m, true, seat, k))
+/* What the calls on whole seats read of a sound pool. */
+static bool empty_node(view m, uint32_t node, uint32_t level) {
+    for (uint32_t k = 0; k < wide(level); k++)
+        if ((level > 0 && bit_at(m, false, node, k)) || bit_at(m, true, node, k))
             return false;
     return true;
+}
+
+static uint32_t cells_below(view m, uint32_t node, uint32_t level) {
+    uint32_t sum = 0;
+    for (uint32_t k = 0; level > 0 && k < wide(level); k++)
+        if (bit_at(m, false, node, k))
+            sum += 1 + cells_below(m, 8 + word_at(m, node, k), level - 1);
+    return sum;
+}
+
+static bool empty_branch_below(view m, uint32_t node, uint32_t level) {
+    for (uint32_t k = 0; level > 0 && k < wide(level); k++) {
+        uint32_t child = 8 + word_at(m, node, k);
+        if (bit_at(m, false, node, k) && (empty_node(m, child, level - 1) || empty_branch_below(m, child, level - 1)))
+            return true;
+    }
+    return false;
+}
+
+/* ---- pictures: what a sound pool stands for, and what a call makes of it ---- */
+
+enum { HIDDEN, ACTIVE, BRANCH };
+
+/* The places of a picture are those of the slots, but a cell has the number at which a walk over all seats comes to it: two memories stand for the same exactly if
+   their pictures are equal. The word of a branch is its cell. */
+typedef struct {
+    uint8_t kind[4096 + 64 * MOST];
+    uint32_t word[4096 + 64 * MOST];
+    uint32_t used, marks[8];
+} picture;
+
+typedef struct {
+    uint8_t kind;
+    uint32_t word;
+} slot;
+
+/* A node to draw: one of the memory, or one whose slots are all alike. */
+typedef struct {
+    bool alike;
+    slot all;
+    uint32_t node;
+} source;
+
+/* The sign of a slot, of a branch that of its slot 0. And the sign that it hands on: of a branch, that of its last slot. */
+static uint32_t sign_in(const picture *p, size_t place) {
+    while (p->kind[place] == BRANCH)
+        place = place_of(8 + p->word[place]);
+    return p->word[place] & MINUS;
+}
+
+static uint32_t sign_behind(const picture *p, size_t place) { return sign_in(p, p->kind[place] == BRANCH ? place_of(8 + p->word[place]) + 63 : place); }
+
+/* The sign that comes to slot k of a node: that of the nearest slot before it that is not hidden, in its own row, or else along the row of row starts (x, y, 0), or
+   else along (x, 0, 0), or else of the first slot that is not hidden. */
+static uint32_t sign_coming(const picture *p, size_t node, uint32_t side, uint32_t k) {
+    const uint8_t *kind = p->kind + node;
+    for (uint32_t step = 1; step < side * side * side; step *= side) {
+        k -= k % step;
+        for (uint32_t back = 0; back <= k / step % side; back++)
+            if (kind[k - back * step] != HIDDEN)
+                return sign_behind(p, node + k - back * step);
+    }
+    for (k = 0; k < side * side * side; k++)
+        if (kind[k] != HIDDEN)
+            return sign_in(p, node + k);
+    return 0;
+}
+
+static void draw_signs(picture *p, size_t node, uint32_t side) {
+    for (uint32_t k = 0; k < side * side * side; k++)
+        if (p->kind[node + k] == HIDDEN)
+            p->word[node + k] = FAR | sign_coming(p, node, side, k);
+}
+
+static bool nothing_drawn(const picture *p, uint32_t cell) {
+    for (uint32_t k = 0; k < 64; k++)
+        if (p->kind[place_of(8 + cell) + k] != HIDDEN)
+            return false;
+    return true;
+}
+
+static slot slot_from(view m, source s, uint32_t k, uint32_t level) {
+    if (s.alike)
+        return s.all;
+    uint8_t kind = level > 0 && bit_at(m, false, s.node, k) ? BRANCH : bit_at(m, true, s.node, k) ? ACTIVE : HIDDEN;
+    return (slot){kind, word_at(m, s.node, k)};
+}
+
+/* A call on a voxel begins a branch where its path ends in this slot above a leaf. */
+static bool begins_branch(const call *c, slot s) {
+    if (c->kind == INSERT)
+        return s.kind == HIDDEN || (s.kind == ACTIVE && !equal_values(s.word, c->bits));
+    return c->kind == REMOVE && s.kind == ACTIVE;
+}
+
+/* The call releases a branch that is empty, on its path or everywhere. */
+static bool releases(const call *c, bool path) { return c->kind == PRUNE || (c->kind >= CUT_BELOW && c->kind <= CUT_BETWEEN) || (c->kind == REMOVE && path); }
+
+static slot value_after(const call *c, slot s, bool voxel) {
+    if (voxel && c->kind == INSERT)
+        return (slot){ACTIVE, c->bits};
+    if (voxel && c->kind == REMOVE)
+        return (slot){HIDDEN, s.word};
+    if (c->kind == FLIP)
+        return (slot){s.kind, s.word ^ MINUS};
+    return (slot){s.kind == ACTIVE && !cuts(c, s.word) ? ACTIVE : HIDDEN, s.word};
+}
+
+static void draw_node(picture *p, size_t at, view m, source from, uint32_t level, const call *c, bool path);
+
+/* Path: the slot is on the path of a call on a voxel. */
+static slot draw_slot(picture *p, view m, slot s, uint32_t level, const call *c, bool path) {
+    source below = {.node = 8 + s.word};
+    if (path && level > 0 && begins_branch(c, s)) {
+        below = (source){.alike = true, .all = s.kind == ACTIVE ? s : (slot){HIDDEN, FAR}};
+        s.kind = BRANCH;
+    }
+    if (s.kind != BRANCH)
+        return value_after(c, s, path && level == 0);
+    uint32_t cell = p->used++;
+    draw_node(p, place_of(8 + cell), m, below, level - 1, c, path);
+    if (!releases(c, path) || !nothing_drawn(p, cell))
+        return (slot){BRANCH, cell};
+    p->used--;
+    return (slot){HIDDEN, FAR};
+}
+
+static uint32_t point_of(const call *c) { return ((uint32_t)c->x & 127) << 14 | ((uint32_t)c->y & 127) << 7 | ((uint32_t)c->z & 127); }
+
+static void draw_node(picture *p, size_t at, view m, source from, uint32_t level, const call *c, bool path) {
+    uint32_t side = level == 2 ? 8 : 4, on = slot_at(point_of(c), level);
+    for (uint32_t k = 0; k < side * side * side; k++) {
+        slot s = draw_slot(p, m, slot_from(m, from, k, level), level, c, path && k == on);
+        p->kind[at + k] = s.kind;
+        p->word[at + k] = s.word;
+    }
+    if (c->kind == FILL_SIGNS)
+        draw_signs(p, at, side);
+}
+
+static uint32_t target(const call *c) { return c->kind == COPY ? c->to : c->seat; }
+
+static source top_after(const call *c) {
+    switch (c->kind) {
+    case PREPARE:
+    case CLEAR: return (source){.alike = true, .all = {HIDDEN, FAR}};
+    case FILL: return (source){.alike = true, .all = {ACTIVE, c->bits}};
+    default: return (source){.node = c->seat};
+    }
+}
+
+static uint32_t mark_after(const call *c, uint32_t mark) { return c->kind == FILL_SIGNS ? 1 : c->kind == FLIP ? mark : 0; }
+
+/* The memory as it is, or as it is after an accepted call that writes. */
+static void draw(picture *p, view m, const call *c) {
+    static const call nothing = {.kind = LOOKUP};
+    p->used = 0;
+    for (uint32_t seat = 0; seat < 8; seat++) {
+        bool changes = c != NULL && (c->kind == PREPARE || seat == target(c));
+        draw_node(p, 512 * seat, m, changes ? top_after(c) : (source){.node = seat}, 2, changes ? c : &nothing, changes);
+        p->marks[seat] = changes ? mark_after(c, m.book[seat]) : m.book[seat];
+    }
+}
+
+static bool same_picture(const picture *p, const picture *q) {
+    size_t size = place_of(8 + p->used);
+    return p->used == q->used && memcmp(p->marks, q->marks, sizeof p->marks) == 0 && memcmp(p->kind, q->kind, size * sizeof *p->kind) == 0 &&
+           memcmp(p->word, q->word, size * sizeof *p->word) == 0;
 }
 
 /* ---- the model: the active voxels of all seats ---- */
 
 enum { TOP = 0x70 << 14 | 0x70 << 7 | 0x70, LEAF = 0x7c << 14 | 0x7c << 7 | 0x7c, ALL = (1 << 21) - 1 };
-
-static uint32_t point_of(const call *c) { return ((uint32_t)c->x & 127) << 14 | ((uint32_t)c->y & 127) << 7 | ((uint32_t)c->z & 127); }
 
 static voxel *model_at(uint32_t seat, uint32_t point, uint32_t under) {
     for (size_t i = 0; i < model_count; i++)
@@ -316,10 +528,85 @@ static void model_clear(uint32_t seat) {
         model_remove(seat, v->point);
 }
 
+static void model_cut(const call *c) {
+    for (size_t i = model_count; i-- > 0;)
+        if (model[i].seat == c->seat && cuts(c, model[i].bits))
+            model_remove(c->seat, model[i].point);
+}
+
+static void model_flip(uint32_t seat) {
+    for (size_t i = 0; i < model_count; i++)
+        if (model[i].seat == seat)
+            model[i].bits ^= MINUS;
+}
+
+static void model_copy(uint32_t seat, uint32_t to) {
+    for (size_t i = 0, count = model_count; i < count && modelled; i++)
+        if (model[i].seat == seat)
+            model_insert(to, model[i].point, model[i].bits);
+}
+
+/* The middle nodes and leaves of a seat: each counts with its first voxel. */
+static uint32_t model_cells(uint32_t seat) {
+    uint32_t sum = 0;
+    for (size_t i = 0; i < model_count; i++)
+        if (model[i].seat == seat)
+            sum += (model_at(seat, model[i].point, LEAF) == &model[i]) + (model_at(seat, model[i].point, TOP) == &model[i]);
+    return sum;
+}
+
 static void model_prepare(void) {
     modelled = true;
     model_count = 0;
     used = 0;
+    memset(filled, 0, sizeof filled);
+}
+
+/* What a point has in common with the other points of its slot, by level. */
+static const uint32_t slot_mask[] = {ALL, LEAF, TOP};
+
+static bool model_slot_sign(uint32_t seat, uint32_t point, uint32_t level);
+
+/* What a slot that is not hidden hands on: a branch the sign of its last slot. */
+static bool model_sign_behind(uint32_t seat, uint32_t point, uint32_t level) {
+    return level == 0 ? model_at(seat, point, ALL)->bits >> 31 : model_slot_sign(seat, point | (ALL ^ slot_mask[level]), level - 1);
+}
+
+/* The sign that the sign fill gives to the slot of this point, or that it has there if it is a voxel: looked for back along z, then y, then x, then from the node's first
+   slot on. */
+static bool model_sign(uint32_t seat, uint32_t point, uint32_t level) {
+    uint32_t side = level == 2 ? 8 : 4, first = point;
+    for (uint32_t shift = 2 * level; shift < 21; shift += 7) {
+        for (uint32_t back = point >> shift & (side - 1);; back--, point -= 1u << shift) {
+            if (model_at(seat, point, slot_mask[level]) != NULL)
+                return model_sign_behind(seat, point, level);
+            if (back == 0)
+                break;
+        }
+        first = point;
+    }
+    for (uint32_t k = 0; k < side * side * side; k++) {
+        uint32_t x = k / side / side, y = k / side % side, z = k % side, at = first | x << (14 + 2 * level) | y << (7 + 2 * level) | z << 2 * level;
+        if (model_at(seat, at, slot_mask[level]) != NULL)
+            return model_slot_sign(seat, at, level);
+    }
+    return false;
+}
+
+/* The sign of the slot of a point, of a branch that of its slot 0. */
+static bool model_slot_sign(uint32_t seat, uint32_t point, uint32_t level) {
+    bool branch = level > 0 && model_at(seat, point, slot_mask[level]) != NULL;
+    return branch ? model_slot_sign(seat, point & slot_mask[level], level - 1) : model_sign(seat, point, level);
+}
+
+/* The sign at a point of a filled seat. A flip turned every sign, so the signs before it are those of the voxels turned back. */
+static bool model_sign_at(uint32_t seat, uint32_t point) {
+    if (turned[seat])
+        model_flip(seat);
+    bool sign = model_sign(seat, point, needed(seat, point));
+    if (turned[seat])
+        model_flip(seat);
+    return sign ^ turned[seat];
 }
 
 /* ---- calls ---- */
@@ -328,6 +615,12 @@ static void model_prepare(void) {
 
 static result from_answer(yoldrick_answer a) { return (result){a.code, yoldrick_bits(a.value)}; }
 static result from_number(yoldrick_number a) { return (result){a.code, a.number}; }
+
+static float float_of(uint32_t bits) {
+    float value;
+    memcpy(&value, &bits, sizeof value);
+    return value;
+}
 
 static result ask(const call *c) {
     switch (c->kind) {
@@ -339,21 +632,31 @@ static result ask(const call *c) {
     case INSERT: return (result){yoldrick_insert(LENT, c->seat, c->x, c->y, c->z, c->bits), 0};
     case REMOVE: return (result){yoldrick_remove(LENT, c->seat, c->x, c->y, c->z), 0};
     case FILL: return (result){yoldrick_fill(LENT, c->seat, c->bits), 0};
-    default: return (result){yoldrick_clear(LENT, c->seat), 0};
+    case CLEAR: return (result){yoldrick_clear(LENT, c->seat), 0};
+    case PRUNE: return (result){yoldrick_prune(LENT, c->seat), 0};
+    case CUT_BELOW: return (result){yoldrick_cut_below(LENT, c->seat, float_of(c->bits)), 0};
+    case CUT_ABOVE: return (result){yoldrick_cut_above(LENT, c->seat, float_of(c->bits)), 0};
+    case CUT_BETWEEN: return (result){yoldrick_cut_between(LENT, c->seat, float_of(c->bits), float_of(c->high)), 0};
+    case FLIP: return (result){yoldrick_flip(LENT, c->seat), 0};
+    case FILL_SIGNS: return (result){yoldrick_fill_signs(LENT, c->seat), 0};
+    default: return (result){yoldrick_copy(LENT, c->seat, c->to), 0};
     }
 }
 
-static bool whole_seat(int kind) { return kind == FILL || kind == CLEAR; }
-static bool writes(int kind) { return kind == PREPARE || kind == INSERT || kind == REMOVE || whole_seat(kind); }
+static bool writes(int kind) { return kind == PREPARE || kind >= INSERT; }
+static bool on_voxel(int kind) { return kind >= LOOKUP && kind <= REMOVE; }
 static bool has_seat(int kind) { return kind != PREPARE && kind != FREE_CELLS; }
+static bool has_bits(int kind) { return kind == INSERT || kind == FILL || (kind >= CUT_BELOW && kind <= CUT_BETWEEN); }
 
-/* The refusal that the counts, the seat and the value alone give, or 0. */
+/* The refusal that the counts, the seats and the values alone give, or 0. */
 static uint32_t refused_at_once(const call *c) {
     if (cells == 0)
         return 1;
-    if (has_seat(c->kind) && c->seat > 7)
+    if (has_seat(c->kind) && (c->seat > 7 || target(c) > 7))
         return 2;
-    if ((c->kind == INSERT || c->kind == FILL) && !finite_word(c->bits))
+    if (c->kind == COPY && c->seat == c->to)
+        return 3;
+    if (has_bits(c->kind) && (!finite_word(c->bits) || (c->kind == CUT_BETWEEN && !finite_word(c->high))))
         return 4;
     return 0;
 }
@@ -366,8 +669,9 @@ static result by_model(const call *c) {
     case FREE_CELLS: return (result){0, cells - used};
     case IS_EMPTY: return (result){0, model_empty(c->seat)};
     case LOOKUP: return v != NULL ? (result){0, v->bits} : (result){10, 0};
-    case SIGN: return (result){6, 0};
+    case SIGN: return filled[c->seat] ? (result){0, model_sign_at(c->seat, point)} : (result){6, 0};
     case INSERT: return (result){cells - used < needed(c->seat, point) ? 9 : 0, 0};
+    case COPY: return (result){!model_empty(c->to) ? 8 : cells - used < model_cells(c->seat) ? 9 : 0, 0};
     default: return (result){0, 0};
     }
 }
@@ -379,17 +683,8 @@ static uint32_t needs(const call *c, end e) {
     return e.active ? e.level : 0;
 }
 
-/* The answer on any memory, read from it as it was before the call. */
-static result foretold(const call *c) {
-    view m = before();
-    if (c->kind == PREPARE)
-        return (result){0, 0};
-    if (c->kind == FREE_CELLS)
-        return sound(m) ? (result){0, m.book[8]} : (result){5, 0};
-    if (c->kind == IS_EMPTY)
-        return sound(m) ? (result){0, empty_seat(m, c->seat)} : (result){5, 0};
-    if (whole_seat(c->kind))
-        return (result){sound(m) ? 0 : 5, 0};
+/* The answer of a call on a voxel on any memory, read from it as it was before the call. */
+static result foretold_on_voxel(const call *c, view m) {
     end e = walk(m, c->seat, point_of(c));
     if (e.broken)
         return (result){5, 0};
@@ -400,80 +695,47 @@ static result foretold(const call *c) {
     return (result){afford(m, needs(c, e)), 0};
 }
 
-/* Seats and points look up as before an accepted insert or remove, but for the one that it was given. */
-static void check_others(const call *c) {
-    for (uint32_t i = 0; i < 32; i++) {
-        uint32_t seat = below(2) ? c->seat : below(8), point = i < 16 ? point_of(c) ^ 1u << below(21) : below(2) ? hot_point[below(4)] : any32() & ALL;
-        if (seat == c->seat && point == point_of(c))
-            continue;
-        end was = walk(before(), seat, point), is = walk(after(), seat, point);
-        if (is.broken || was.active != is.active || (is.active && was.word != is.word))
-            fail("another voxel has changed");
+/* The same of any call. */
+static result foretold(const call *c) {
+    view m = before();
+    if (c->kind == PREPARE)
+        return (result){0, 0};
+    if (on_voxel(c->kind))
+        return foretold_on_voxel(c, m);
+    if (!sound(m))
+        return (result){5, 0};
+    switch (c->kind) {
+    case FREE_CELLS: return (result){0, m.book[8]};
+    case IS_EMPTY: return (result){0, empty_node(m, c->seat, 2)};
+    case FILL_SIGNS: return (result){empty_branch_below(m, c->seat, 2) ? 7 : 0, 0};
+    case COPY: return (result){!empty_node(m, c->to, 2) ? 8 : cells_below(m, c->seat, 2) > m.book[8] ? 9 : 0, 0};
+    default: return (result){0, 0};
     }
 }
 
-/* The slots of a branch that an insert began at a slot of this level are hidden and far: next to the voxel, and next to its leaf. */
-static void check_new(const call *c, uint32_t level) {
-    for (uint32_t i = 0; i < level; i++) {
-        end e = walk(after(), c->seat, point_of(c) ^ 1u << (2 * i + 7 * below(3) + below(2)));
-        if (e.broken || e.active || e.level != i || e.word != FAR)
-            fail("a new slot is not hidden and far");
-    }
-}
-
-/* An accepted insert or remove on a sound pool. */
+/* After an accepted call that writes, a pool that was sound is sound, and stands for what the call makes of it. Only calls on a voxel are accepted on another. */
 static void check_effect(const call *c) {
-    if (!sound(before()))
+    static picture owed, is;
+    if (on_voxel(c->kind) && !sound(before()))
         return;
     kept_sound++;
-    end was = walk(before(), c->seat, point_of(c)), is = walk(after(), c->seat, point_of(c));
     if (!sound(after()))
         fail("a sound pool is sound no more");
-    if (c->kind == REMOVE ? is.active : !is.active)
-        fail("the voxel was not inserted or removed");
-    if (c->kind == INSERT && is.word != (was.active && was.level > 0 && equal_values(was.word, c->bits) ? was.word : c->bits))
-        fail("the voxel has another value");
-    if (c->kind == INSERT && before().book[8] - after().book[8] != needs(c, was))
-        fail("not the cells that an insert needs");
-    if (after().book[c->seat] != 0)
-        fail("the seat is still marked as filled");
-    if (c->kind == REMOVE && (is.level < was.level ? before().book[8] - after().book[8] != was.level : after().book[8] - before().book[8] != is.level - was.level))
-        fail("not the cells that a remove needs or releases");
-    if (c->kind == REMOVE && is.word != (is.level > was.level ? FAR : was.word))
-        fail("a hidden slot has not kept its value, or a released one is not far");
-    if (c->kind == INSERT && was.level > 0 && !was.active)
-        check_new(c, was.level);
-    check_others(c);
-}
-
-/* An accepted fill or clear: each slot of the seat's top has the value, and the other seats are as before. */
-static void check_whole(const call *c) {
-    if (!sound(after()))
-        fail("a sound pool is sound no more");
-    if (after().book[c->seat] != 0)
-        fail("the seat is still marked as filled");
-    for (uint32_t i = 0; i < 512; i++) {
-        end e = walk(after(), c->seat, (i >> 6) << 18 | (i >> 3 & 7) << 11 | (i & 7) << 4);
-        if (e.broken || e.level != 2 || e.active != (c->kind == FILL) || e.word != (c->kind == FILL ? c->bits : FAR))
-            fail("a slot of the top is not as the call leaves it");
-    }
-    for (uint32_t i = 0; i < 32; i++) {
-        uint32_t seat = (c->seat + 1 + below(7)) % 8, point = below(2) ? hot_point[below(4)] : any32() & ALL;
-        end was = walk(before(), seat, point), is = walk(after(), seat, point);
-        if (is.broken || was.level != is.level || was.active != is.active || was.word != is.word)
-            fail("another seat has changed");
-    }
+    draw(&owed, before(), c);
+    draw(&is, after(), NULL);
+    if (!same_picture(&owed, &is))
+        fail("the seats, their marks or their cells are not as the call leaves them");
 }
 
 static void check_answer(const call *c, result r) {
-    if (r.code >= CODES || memchr(codes[c->kind], (int)r.code, codes_count[c->kind]) == NULL)
+    if (r.code >= CODES || (kinds[c->kind].codes >> r.code & 1) == 0)
         fail("a code that this call cannot give");
     seen[c->kind][r.code]++;
     if (r.code != 0 && r.more != 0)
         fail("a refusal with more than its number");
     uint32_t refusal = refused_at_once(c);
-    if (refusal != 0 ? r.code != refusal : r.code == 1 || r.code == 2 || r.code == 4)
-        fail("not the refusal of these counts, this seat and this value");
+    if (refusal != 0 ? r.code != refusal : r.code >= 1 && r.code <= 4)
+        fail("not the refusal of these counts, seats and values");
     if (refusal != 0)
         return;
     result f = foretold(c);
@@ -494,11 +756,7 @@ static void check_memory(const call *c, result r) {
     }
     if (!slots_kept_or_finite())
         fail("a slot that is neither as before nor finite");
-    if (c->kind == PREPARE && (!sound(after()) || after().book[8] != cells))
-        fail("a prepared pool is not sound, or not free");
-    if (whole_seat(c->kind))
-        check_whole(c);
-    else if (c->kind != PREPARE && (tiled || below(32) == 0))
+    if (watched || !on_voxel(c->kind) || below(32) == 0)
         check_effect(c);
     keep();
 }
@@ -506,16 +764,22 @@ static void check_memory(const call *c, result r) {
 static void follow(const call *c) {
     if (c->kind == PREPARE)
         model_prepare();
-    if (!modelled)
+    if (c->kind == PREPARE || !modelled)
         return;
-    if (c->kind == INSERT)
-        model_insert(c->seat, point_of(c), c->bits);
-    if (c->kind == REMOVE)
-        model_remove(c->seat, point_of(c));
-    if (c->kind == CLEAR)
-        model_clear(c->seat);
-    if (c->kind == FILL)
-        modelled = false;
+    filled[target(c)] = c->kind == FILL_SIGNS || (c->kind == FLIP && filled[c->seat]);
+    turned[target(c)] = c->kind == FLIP && !turned[c->seat];
+    switch (c->kind) {
+    case INSERT: model_insert(c->seat, point_of(c), c->bits); break;
+    case REMOVE: model_remove(c->seat, point_of(c)); break;
+    case CLEAR: model_clear(c->seat); break;
+    case FILL: modelled = false; break;
+    case CUT_BELOW:
+    case CUT_ABOVE:
+    case CUT_BETWEEN: model_cut(c); break;
+    case FLIP: model_flip(c->seat); break;
+    case COPY: model_copy(c->seat, c->to); break;
+    default: break;
+    }
 }
 
 static void make(const call *c) {
@@ -530,7 +794,10 @@ static void make(const call *c) {
     if (!modelled || c->kind == PREPARE)
         return;
     call again = *c;
+    again.seat = target(c);
     again.kind = LOOKUP;
+    make(&again);
+    again.kind = SIGN;
     make(&again);
 }
 
@@ -568,10 +835,14 @@ static int32_t coordinate(uint32_t hot) {
 
 static call any_call(void) {
     static const int seldom[] = {PREPARE, FREE_CELLS, IS_EMPTY, FILL, CLEAR};
+    static const int whole[] = {PRUNE, CUT_BELOW, CUT_ABOVE, CUT_BETWEEN, FLIP, FLIP, FILL_SIGNS, FILL_SIGNS, FILL_SIGNS, COPY, COPY, COPY};
     static const int often[] = {LOOKUP, LOOKUP, LOOKUP, LOOKUP, SIGN, SIGN, INSERT, INSERT, INSERT, INSERT, INSERT, REMOVE, REMOVE, REMOVE};
     uint32_t hot = hot_point[below(4)];
-    bool at_hot = below(2), rare = below(24) == 0;
-    call c = {.kind = rare ? seldom[below(sizeof seldom / sizeof *seldom)] : often[below(sizeof often / sizeof *often)], .seat = below(4) ? hot_seat : below(10), .bits = value_word()};
+    bool at_hot = below(2);
+    uint32_t among = below(24);
+    call c = {.seat = below(4) ? hot_seat : below(10), .bits = value_word(), .high = value_word()};
+    c.kind = among == 0 ? seldom[below(sizeof seldom / sizeof *seldom)] : among <= 3 ? whole[below(sizeof whole / sizeof *whole)] : often[below(sizeof often / sizeof *often)];
+    c.to = below(16) ? below(9) : c.seat;
     c.x = at_hot ? (int32_t)(hot >> 14) : coordinate(hot >> 14);
     c.y = at_hot ? (int32_t)(hot >> 7 & 127) : coordinate(hot >> 7 & 127);
     c.z = at_hot ? (int32_t)(hot & 127) : coordinate(hot & 127);
@@ -652,16 +923,66 @@ static void lend_wrong(uint32_t n, bool first) { lend_counts(near_count(4096 + 6
 
 static void lend_right(uint32_t n, bool first) { lend_counts(4096 + 64 * (size_t)n, 128 + 2 * (size_t)n, 9 + 2 * (size_t)n, first); }
 
-/* Active tiles in the top of the seat come with no call yet. A pool with them is sound. */
-static void set_tiles(uint32_t n) {
-    for (uint32_t i = 0; i < 8; i++) {
-        uint32_t k = slot_of(i < 4 ? hot_point[i] : any32() & ALL, 4, 3), w = value_word();
-        if (!finite_word(w))
-            continue;
-        slots()[512 * hot_seat + k] = w;
-        masks()[64 + n + 8 * hot_seat + k / 64] |= (uint64_t)1 << (63 - k % 64);
+/* A node of slots with any finite value, all, some or none of them active, and none a branch. */
+static void paint(uint32_t node) {
+    size_t first = place_of(node), past = place_of(node + 1);
+    uint32_t style = below(8);
+    for (size_t i = first; i < past; i++) {
+        uint32_t w = value_word();
+        slots()[i] = finite_word(w) ? w : FAR;
     }
-    book()[hot_seat] = below(2);
+    for (size_t i = first / 64; i < past / 64; i++) {
+        masks()[i] = 0;
+        masks()[64 + cells + i] = style < 3 ? 0 : style == 3 ? UINT64_MAX : style == 4 ? any() | any() | any() : any() & any() & any();
+    }
+}
+
+/* A free cell, freshly painted, becomes the branch of a slot. The child word of a leaf holds anything, since no call reads it. */
+static void hang(uint32_t node, uint32_t k, uint32_t level) {
+    uint32_t cell = book()[9 + cells + --book()[8]];
+    size_t place = place_of(node) + k;
+    uint64_t bit = (uint64_t)1 << (63 - place % 64);
+    slots()[place] = cell;
+    masks()[place / 64] |= bit;
+    masks()[64 + cells + place / 64] &= ~bit;
+    book()[9 + cell] = 65536 + 512 * node + k;
+    paint(8 + cell);
+    if (level == 1)
+        masks()[64 + cell] = any();
+}
+
+/* A middle node or a leaf on the way to a point, if there is none. */
+static void grow(uint32_t seat, uint32_t point) {
+    uint32_t node = seat;
+    for (uint32_t level = 2; level > 0 && book()[8] > 0; level--) {
+        uint32_t k = slot_at(point, level);
+        if (!bit_at(after(), false, node, k)) {
+            hang(node, k, level);
+            return;
+        }
+        node = 8 + word_at(after(), node, k);
+    }
+}
+
+/* A sound pool that no call needs to have led to: tiles and hidden values on every level, empty branches, cells in any order, any marks. */
+static void build(void) {
+    uint32_t *stack = book() + 9 + cells;
+    for (uint32_t i = 0; i < cells; i++) {
+        uint32_t j = below(i + 1);
+        stack[i] = stack[j];
+        stack[j] = i;
+    }
+    book()[8] = cells;
+    for (uint32_t seat = 0; seat < 8; seat++) {
+        book()[seat] = below(2);
+        paint(seat);
+    }
+    for (uint32_t i = below(3 * cells + 2); i > 0; i--)
+        grow(below(3) ? hot_seat : below(8), below(2) ? hot_point[below(4)] : any32() & ALL);
+    for (uint32_t i = 0; i < book()[8]; i++)
+        book()[9 + stack[i]] = i;
+    if (!sound(after()))
+        fail("the built pool is not sound");
 }
 
 static void prepare(void) {
@@ -690,15 +1011,25 @@ static void run_largest(bool first) {
     work(6);
 }
 
+/* Now and then the point moves into the last slot of its middle node, or of its leaf too, or into the first: these give a branch its signs. */
+static uint32_t near_corner(uint32_t point) {
+    switch (below(8)) {
+    case 0: return point | (LEAF ^ TOP);
+    case 1: return point | (ALL ^ TOP);
+    case 2: return point & ~(uint32_t)(LEAF ^ TOP);
+    default: return point;
+    }
+}
+
 static void run_episode(void) {
     state = seed * 0x100000001b3u ^ episode << 20;
     bool first = below(2);
     uint32_t n = below(4) ? 1 + below(6) : below(16) ? 1 + below(40) : 1 + below(300);
     modelled = false;
-    tiled = false;
+    watched = false;
     hot_seat = below(8);
     for (int i = 0; i < 4; i++)
-        hot_point[i] = i > 0 && below(2) ? hot_point[0] ^ below(32) << 7 * below(3) : any32() & ALL;
+        hot_point[i] = i > 0 && below(2) ? hot_point[0] ^ below(32) << 7 * below(3) : near_corner(any32() & ALL);
     if (episode % 16384 == 7 || episode % 16384 == 8) {
         run_largest(first);
         return;
@@ -721,12 +1052,11 @@ static void run_episode(void) {
         return;
     }
     if (filling == 4) {
-        memory = "prepared, with tiles";
-        prepare();
-        modelled = false;
-        tiled = true;
-        set_tiles(n);
+        memory = "built";
+        fill_any(n, below(2));
+        build();
         keep();
+        watched = true;
         work(48);
         return;
     }
@@ -737,6 +1067,8 @@ static void run_episode(void) {
         return;
     memory = "damaged";
     modelled = false;
+    if (below(4) == 0)
+        build();
     for (uint32_t i = 1 + below(8); i > 0; i--)
         damage_one(n);
     keep();
@@ -746,20 +1078,19 @@ static void run_episode(void) {
 /* ---- the run ---- */
 
 static bool print_table(void) {
-    static const int shown[] = {0, 1, 2, 4, 5, 6, 9, 10};
     bool all = true;
-    printf("%-10s", "code");
-    for (size_t i = 0; i < sizeof shown / sizeof *shown; i++)
-        printf(" %8d", shown[i]);
+    printf("%-11s", "code");
+    for (int code = 0; code < CODES; code++)
+        printf(" %7d", code);
     for (int k = 0; k < KINDS; k++) {
-        printf("\n%-10s", names[k]);
-        for (size_t i = 0; i < sizeof shown / sizeof *shown; i++) {
-            bool given = memchr(codes[k], shown[i], codes_count[k]) != NULL;
+        printf("\n%-11s", kinds[k].name);
+        for (int code = 0; code < CODES; code++) {
+            bool given = kinds[k].codes >> code & 1;
             if (given)
-                printf(" %8llu", (unsigned long long)seen[k][shown[i]]);
+                printf(" %7llu", (unsigned long long)seen[k][code]);
             else
-                printf(" %8s", "-");
-            if (given && seen[k][shown[i]] == 0)
+                printf(" %7s", "-");
+            if (given && seen[k][code] == 0)
                 all = false;
         }
     }

@@ -17,10 +17,17 @@
 
        1   the counts are not those of one n from 1 to 65535
        2   a seat number is above 7
-       4   a given value is NaN or infinite
+       3   a copy of a seat onto itself
+       4   a given value or bound is NaN or infinite
        5   calls on one voxel: the path to it, or a free cell that is needed, is damaged; other calls but prepare: the pool is not sound
-       6   the sign is asked of a seat that is not filled
+       6   the sign is asked of a seat that is not filled with signs
+       7   a fill with signs of a seat in which a branch is empty: prune it first
+       8   a copy onto a seat that is not empty
        9   fewer free cells than needed
+
+   SIGNS. A slot that is neither active nor a branch is hidden: no lookup shows its value, but it has one, and so a sign. An accepted yoldrick_fill_signs gives every hidden
+   slot its sign and fills the seat with signs; yoldrick_sign is answered then. The seat is filled until the next accepted insert, remove, fill, clear, prune or cut on it, or
+   prepare, even one that finds nothing to change. A flip leaves it filled, and a copy of it is not.
 
    COST. 'A walk' is at most three slots, whatever n is. 'The whole pool' is each cell and slot once: the test that it is sound.
 
@@ -73,7 +80,7 @@ yoldrick_number yoldrick_is_empty(const uint32_t *slots, size_t slots_count, con
    Refusals: 1, 2, 5. Cost: a walk. */
 yoldrick_answer yoldrick_lookup(const uint32_t *slots, size_t slots_count, const uint64_t *masks, size_t masks_count, const uint32_t *book, size_t book_count, uint32_t seat, int32_t x, int32_t y, int32_t z);
 
-/* 1 if the value at (x, y, z), active or hidden, has its sign bit set (-0 has), else 0. The seat must be filled with signs.
+/* 1 if the value at (x, y, z), active or hidden, has its sign bit set (-0 has), else 0. The seat must be filled with signs: yoldrick_fill_signs.
    Refusals: 1, 2, 5, 6. Cost: a walk. */
 yoldrick_number yoldrick_sign(const uint32_t *slots, size_t slots_count, const uint64_t *masks, size_t masks_count, const uint32_t *book, size_t book_count, uint32_t seat, int32_t x, int32_t y, int32_t z);
 
@@ -102,6 +109,37 @@ uint32_t yoldrick_fill(uint32_t *slots, size_t slots_count, uint64_t *masks, siz
 /* The seat becomes empty, every slot of its top hidden with the largest finite value. All its cells are free then. The seat is no longer filled with signs.
    Refusals: 1, 2, 5. Cost: as of a fill. */
 uint32_t yoldrick_clear(uint32_t *slots, size_t slots_count, uint64_t *masks, size_t masks_count, uint32_t *book, size_t book_count, uint32_t seat);
+
+/* Every branch of the seat in which nothing is active is released. No lookup changes. The seat is no longer filled with signs.
+   Refusals: 1, 2, 5. Cost: the whole pool, and a walk over the seat's top and cells. */
+uint32_t yoldrick_prune(uint32_t *slots, size_t slots_count, uint64_t *masks, size_t masks_count, uint32_t *book, size_t book_count, uint32_t seat);
+
+/* A cut: every active voxel or tile of the seat whose value is strictly below high is no longer active. Values are compared as numbers: the two zeros are equal. A tile
+   goes as a whole or stays. Every branch that is empty then is released, one that was empty before too. The seat is no longer filled with signs. A bound is passed as a
+   float: one that is not finite is refused, whichever bits it has.
+   Refusals: 1, 2, 4, 5. Cost: as of a prune. */
+uint32_t yoldrick_cut_below(uint32_t *slots, size_t slots_count, uint64_t *masks, size_t masks_count, uint32_t *book, size_t book_count, uint32_t seat, float high);
+
+/* A cut of what is strictly above low.
+   Refusals: 1, 2, 4, 5. Cost: as of a prune. */
+uint32_t yoldrick_cut_above(uint32_t *slots, size_t slots_count, uint64_t *masks, size_t masks_count, uint32_t *book, size_t book_count, uint32_t seat, float low);
+
+/* A cut of what is from low to high, both included: nothing if low is above high.
+   Refusals: 1, 2, 4, 5. Cost: as of a prune. */
+uint32_t yoldrick_cut_between(uint32_t *slots, size_t slots_count, uint64_t *masks, size_t masks_count, uint32_t *book, size_t book_count, uint32_t seat, float low, float high);
+
+/* Every value of the seat, active or hidden, has the other sign (a zero too). A seat that was filled with signs still is.
+   Refusals: 1, 2, 5. Cost: as of a prune. */
+uint32_t yoldrick_flip(uint32_t *slots, size_t slots_count, uint64_t *masks, size_t masks_count, uint32_t *book, size_t book_count, uint32_t seat);
+
+/* The seat is filled with signs: every hidden slot gets the largest finite value with the sign that comes to it along its row from what is active before it. Active values
+   stay. In an empty seat all signs are positive.
+   Refusals: 1, 2, 5, 7. Cost: as of a prune. */
+uint32_t yoldrick_fill_signs(uint32_t *slots, size_t slots_count, uint64_t *masks, size_t masks_count, uint32_t *book, size_t book_count, uint32_t seat);
+
+/* The empty seat `to` becomes a copy of the seat `from`, hidden values too, but is not filled with signs. Needs as many free cells as `from` holds. `from` stays as it is.
+   Refusals: 1, 2, 3, 5, 8, 9. Cost: the whole pool, and the writing of a top and of every cell that it takes. */
+uint32_t yoldrick_copy(uint32_t *slots, size_t slots_count, uint64_t *masks, size_t masks_count, uint32_t *book, size_t book_count, uint32_t from, uint32_t to);
 
 #ifdef __cplusplus
 }

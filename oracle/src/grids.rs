@@ -1,6 +1,8 @@
 //! The calls of our library on a pool of grids: the lent memory, and each call as a value, so that a test can make,
 //! show and break it.
 
+pub const SEATS: usize = 8;
+
 /// Three coordinates. A call masks each to its low 7 bits.
 pub type Point = [i32; 3];
 
@@ -15,6 +17,29 @@ pub enum Call {
     Remove { seat: u32, at: Point },
     Fill { seat: u32, bits: u32 },
     Clear { seat: u32 },
+    Prune { seat: u32 },
+    Cut { seat: u32, test: Test },
+    Flip { seat: u32 },
+    FillSigns { seat: u32 },
+    Copy { from: u32, to: u32 },
+}
+
+/// What a cut hides, with the bits of its bounds.
+#[derive(Debug, Clone, Copy, PartialEq, Eq)]
+pub enum Test {
+    Below(u32),
+    Above(u32),
+    Between(u32, u32),
+}
+
+impl Test {
+    pub fn passes(self, value: f32) -> bool {
+        match self {
+            Self::Below(high) => value < f32::from_bits(high),
+            Self::Above(low) => value > f32::from_bits(low),
+            Self::Between(low, high) => f32::from_bits(low) <= value && value <= f32::from_bits(high),
+        }
+    }
 }
 
 /// The code of a call, and the number that comes with it: for a lookup the bits of the float, 0 where there is none.
@@ -103,6 +128,28 @@ impl Pool {
         self.slots.is_guarded() && self.masks.is_guarded() && self.book.is_guarded()
     }
 
+    /// Makes a free cell, with all its slots hidden, the branch of a slot: of a top, 0 to 7, or of the node that an earlier
+    /// such call gave. No call of our library leaves a branch empty yet, so this writes the words themselves.
+    pub fn hang_empty_branch(&mut self, node: usize, slot: usize) -> usize {
+        let (slots, masks, book) = (self.slots.words(), self.masks.words(), self.book.words());
+        let cells = (book.len() - 9) / 2;
+        let place = |node: usize| if node < SEATS { 512 * node } else { 4096 + 64 * (node - SEATS) };
+        let (at, bit) = (place(node) + slot, 1 << (63 - slot % 64));
+
+        book[8] -= 1;
+        let cell = book[9 + cells + book[8] as usize] as usize;
+        book[9 + cell] = (65_536 + 512 * node + slot) as u32;
+        slots[at] = cell as u32;
+        masks[at / 64] |= bit;
+        masks[64 + cells + at / 64] &= !bit;
+
+        let branch = SEATS + cell;
+        slots[place(branch)..place(branch) + 64].fill(f32::MAX.to_bits());
+        masks[place(branch) / 64] = 0;
+        masks[64 + cells + place(branch) / 64] = 0;
+        branch
+    }
+
     /// Turns one bit of each slice that has one.
     pub fn turn_bits(&mut self) {
         self.slots.words().iter_mut().take(1).for_each(|word| *word ^= 1);
@@ -148,6 +195,13 @@ mod raw {
         yoldrick_remove(u32, i32, i32, i32) -> u32;
         yoldrick_fill(u32, u32) -> u32;
         yoldrick_clear(u32) -> u32;
+        yoldrick_prune(u32) -> u32;
+        yoldrick_cut_below(u32, f32) -> u32;
+        yoldrick_cut_above(u32, f32) -> u32;
+        yoldrick_cut_between(u32, f32, f32) -> u32;
+        yoldrick_flip(u32) -> u32;
+        yoldrick_fill_signs(u32) -> u32;
+        yoldrick_copy(u32, u32) -> u32;
     }
 }
 
@@ -195,6 +249,33 @@ pub fn archive(call: Call, pool: &mut Pool) -> Answer {
             }
             Call::Fill { seat, bits } => raw::yoldrick_fill(s, s_count, m, m_count, b, b_count, seat, bits).into(),
             Call::Clear { seat } => raw::yoldrick_clear(s, s_count, m, m_count, b, b_count, seat).into(),
+            Call::Prune { seat } => raw::yoldrick_prune(s, s_count, m, m_count, b, b_count, seat).into(),
+            Call::Cut { seat, test: Test::Below(high) } => {
+                raw::yoldrick_cut_below(s, s_count, m, m_count, b, b_count, seat, f32::from_bits(high)).into()
+            }
+            Call::Cut { seat, test: Test::Above(low) } => {
+                raw::yoldrick_cut_above(s, s_count, m, m_count, b, b_count, seat, f32::from_bits(low)).into()
+            }
+            Call::Cut { seat, test: Test::Between(low, high) } => {
+                let (low, high) = (f32::from_bits(low), f32::from_bits(high));
+                raw::yoldrick_cut_between(s, s_count, m, m_count, b, b_count, seat, low, high).into()
+            }
+            Call::Flip { seat } => raw::yoldrick_flip(s, s_count, m, m_count, b, b_count, seat).into(),
+            Call::FillSigns { seat } => raw::yoldrick_fill_signs(s, s_count, m, m_count, b, b_count, seat).into(),
+            Call::Copy { from, to } => raw::yoldrick_copy(s, s_count, m, m_count, b, b_count, from, to).into(),
         }
+    }
+}
+
+/// What a broken library does after a call: the call, its answer, the pool after it and before it.
+pub type Breakage = fn(Call, &mut Answer, &mut Pool, &Pool);
+
+/// The archive, except that something else is left behind where `breakage` chooses.
+pub fn broken(breakage: Breakage) -> impl Fn(Call, &mut Pool) -> Answer {
+    move |call, pool| {
+        let before = pool.clone();
+        let mut answer = archive(call, pool);
+        breakage(call, &mut answer, pool, &before);
+        answer
     }
 }

@@ -1,5 +1,6 @@
 //! The Rust that is ported, built unchanged beside stand-ins, and the code that compares our library with it.
 
+pub mod beside;
 pub mod bits;
 pub mod dice;
 pub mod grids;

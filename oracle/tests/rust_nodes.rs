@@ -142,6 +142,41 @@ fn filling_over_an_empty_branch_spreads_fresh_memory() {
 }
 
 #[test]
+fn filling_over_an_empty_leaf_spreads_a_plus() {
+    fn hang_leaf<T: Grid>(grid: &mut T, at: Vec3i) {
+        grid.insert_leaf_at(T::Leaf::empty(at));
+    }
+    let signs_behind = |with_leaf: bool| {
+        let mut a = grid(middle, &[(p(0, 0, 0), -1.0)]);
+        if with_leaf {
+            hang_leaf(&mut *a, p(0, 0, 4)); // its voxels hold +0, and none is active
+        }
+        a.flood_fill();
+        a.sign_at(&p(0, 0, 8))
+    };
+    assert_eq!([false, true].map(signs_behind), [Sign::Negative, Sign::Positive]);
+}
+
+#[test]
+fn signs_are_stale_after_a_change() {
+    let mut a = filled(middle, &[(p(0, 0, 0), 1.0)]);
+    a.insert(&p(0, 0, 4), -1.0);
+    assert_eq!(a.sign_at(&p(0, 0, 8)), Sign::Positive);
+    a.flood_fill();
+    assert_eq!(a.sign_at(&p(0, 0, 8)), Sign::Negative);
+}
+
+#[test]
+fn a_bound_of_a_cut_may_be_anything() {
+    let left_by = |high: f32| {
+        let mut a = full_of(middle, 1.0);
+        a.remove_if(|value| *value < high);
+        a.at(&p(0, 0, 0)).copied()
+    };
+    assert_eq!([f32::NAN, f32::INFINITY].map(left_by), [Some(1.0), None]);
+}
+
+#[test]
 fn a_copy_has_fresh_memory_in_hidden_slots() {
     let signs = under_both_paints(|| {
         let a = filled(middle, &[(p(0, 0, 0), -1.0)]);

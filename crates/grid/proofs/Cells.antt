@@ -10,7 +10,7 @@ use Rattle.grid.specs.Combine.{Operation, union, subtract, intersect, st
 use Rattle.grid.specs.Geometry.{Point, slotOf}
 use Rattle.grid.specs.Node.{branch, tile, hidden, onSlot, slot-ind, isHidden, size, Node, SlotOf, changed, every, sum}
 use Rattle.grid.specs.Voxel.{insertS, insert, kept, removeS, remove, needInsertS, needRemoveS, freedS}
-use Rattle.grid.specs.Whole.{flip, flipS, cells, cellsS, reach}
+use Rattle.grid.specs.Whole.{flip, flipS, cells, cellsS, reach, isEmpty}
 use Rattle.grid.proofs.Geometry.{slot-lt}
 use Rattle.grid.proofs.Places.{every-at, sum-same, sum-zero, sum-le, sum-changed}
 
@@ -107,18 +107,23 @@ module _ (p : Point) (v : ℕ) where
     unfolding needInsertS
     zero-leaf m l h = rw h
 
--- a branch of which nothing is left had no branch below it
-pub kept-cells : (b : ℕ) (bs : List ℕ) (n : Node (b ∷ bs)) → cellsS (b ∷ bs) (kept b bs n) + cond (every isHidden (size b) n) 1 0 ≡ suc (reach b bs n)
-unfolding kept cells reach isHidden
-kept-cells b bs n = go (every isHidden (size b) n) refl
+-- an empty grid reaches no cell
+pub empty-reach : (b : ℕ) (bs : List ℕ) (n : Node (b ∷ bs)) → isEmpty b bs n ≡ true → reach b bs n ≡ 0
+unfolding isEmpty reach isHidden
+empty-reach b bs n e = sum-zero (size b) (λ i. cellsS bs (n i)) (λ i h. none-below (n i) (every-at isHidden (size b) n i e h))
   where
     none-below : (s : SlotOf bs) → isHidden s ≡ true → cellsS bs s ≡ 0
     none-below (branch c) e = absurd (false≢true e)
     none-below (tile v) e = refl
     none-below (hidden v) e = refl
 
+-- a branch of which nothing is left had no branch below it
+pub kept-cells : (b : ℕ) (bs : List ℕ) (n : Node (b ∷ bs)) → cellsS (b ∷ bs) (kept b bs n) + cond (every isHidden (size b) n) 1 0 ≡ suc (reach b bs n)
+unfolding kept cells reach isEmpty
+kept-cells b bs n = go (every isHidden (size b) n) refl
+  where
     go : (k : Bool) → every isHidden (size b) n ≡ k → cellsS (b ∷ bs) (cond k (hidden far) (branch n)) + cond k 1 0 ≡ suc (sum (size b) (λ i. cellsS bs (n i)))
-    go true e = omega (arith, sum-zero (size b) (λ i. cellsS bs (n i)) (λ i h. none-below (n i) (every-at isHidden (size b) n i e h)))
+    go true e = omega (arith, empty-reach b bs n e)
     go false e = omega arith
 
 module _ (p : Point) where

@@ -44,6 +44,11 @@ unfolding every
 every-all f zero n h = refl
 every-all f (suc k) n h = ap₂ _&&_ (h k) (every-all f k n h)
 
+pub every-same : {A : Type 0} (f : A → Bool) (k : ℕ) (n m : ℕ → A) → ((i : ℕ) → f (n i) ≡ f (m i)) → every f k n ≡ every f k m
+unfolding every
+every-same f zero n m h = refl
+every-same f (suc k) n m h = ap₂ _&&_ (h k) (every-same f k n m h)
+
 pub sum-same : (k : ℕ) (f g : ℕ → ℕ) → ((j : ℕ) → j < k → f j ≡ g j) → sum k f ≡ sum k g
 unfolding sum
 sum-same zero f g h = refl

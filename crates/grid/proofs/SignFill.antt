@@ -1,4 +1,4 @@
--- Sign fill keeps lookups, filling twice is filling once, and the sign that comes to a slot by its coordinates. Assumes nothing.
+-- Sign fill keeps lookups and which branches are empty, filling twice is filling once, and the sign that comes to a slot by its coordinates. Assumes nothing.
 use mathlib.Core.Path.{_≡_, refl, sym, _∙_, ap, subst, fun-ext}
 use mathlib.Core.Bool.{Bool, true, false, false≢true}
 use mathlib.Core.List.{List, [], _∷_}
@@ -12,7 +12,9 @@ use Rattle.grid.specs.Geometry.{Point, slotOf}
 use Rattle.grid.specs.Node.{branch, tile, hidden, onSlot, slot-ind, isHidden, size, Node, SlotOf}
 use Rattle.grid.specs.SignFill.{firstSign, replaced, along, start, signI, signJ, signK, carried, written, filledRows, fillSigns, fillSignsS}
 use Rattle.grid.specs.Voxel.{lookup, lookupS}
+use Rattle.grid.specs.Whole.{isEmpty, hollow, hasHollow}
 use Rattle.grid.proofs.Geometry.{square}
+use Rattle.grid.proofs.Whole.{SameShape, same-empty, same-has-hollow, same-hollow}
 
 pub fillSigns-lookup : (bs : List ℕ) (c : Node bs) (p : Point) → lookup bs (fillSigns bs c) p ≡ lookup bs c p
 unfolding lookup fillSigns filledRows
@@ -80,6 +82,32 @@ fillSigns-twice (b ∷ bs) n =
     (λ c k. ap branch (fillSigns-twice bs c)) (λ v k. refl) (λ v k. refl)
     (n i) (carried b bs (λ j. fillSignsS bs (n j)) (i % size b))))
     ∙ filled-twice b bs (λ i. fillSignsS bs (n i))
+
+-- ---- the same slots are hidden and the same branches are empty
+
+-- of a slot, whatever is written, from what it is in the branches
+rewritten : (bs : List ℕ) → ((c : Node bs) → hollow bs (fillSigns bs c) ≡ hollow bs c) → (s : SlotOf bs) (k : Bool) → SameShape bs (written bs k (fillSignsS bs s)) s
+unfolding isHidden
+rewritten bs h (branch c) k = (refl, h c)
+rewritten bs h (tile v) k = (refl, refl)
+rewritten bs h (hidden v) k = (refl, refl)
+
+fillSigns-hollow : (bs : List ℕ) (c : Node bs) → hollow bs (fillSigns bs c) ≡ hollow bs c
+unfolding fillSigns filledRows
+fillSigns-hollow [] c = absurd c
+fillSigns-hollow (b ∷ bs) n =
+    same-hollow b bs _ n (λ i. rewritten bs (fillSigns-hollow bs) (n i) (carried b bs (λ j. fillSignsS bs (n j)) (i % size b)))
+
+module _ (b : ℕ) (bs : List ℕ) (n : Node (b ∷ bs)) where
+  shape : (i : ℕ) → SameShape bs (fillSigns (b ∷ bs) n i) (n i)
+  unfolding fillSigns filledRows
+  shape i = rewritten bs (fillSigns-hollow bs) (n i) (carried b bs (λ j. fillSignsS bs (n j)) (i % size b))
+
+  pub fillSigns-isEmpty : isEmpty b bs (fillSigns (b ∷ bs) n) ≡ isEmpty b bs n
+  fillSigns-isEmpty = same-empty b bs (fillSigns (b ∷ bs) n) n shape
+
+  pub fillSigns-has-hollow : hasHollow b bs (fillSigns (b ∷ bs) n) ≡ hasHollow b bs n
+  fillSigns-has-hollow = same-has-hollow b bs (fillSigns (b ∷ bs) n) n shape
 
 -- the sign that comes to slot (x,y,z), by its number
 pub carried-at : (b : ℕ) (bs : List ℕ) (n : Node (b ∷ bs)) (x y z : ℕ) → y < 2 ^ b → z < 2 ^ b → carried b bs n (x * 2 ^ (2 * b) + y * 2 ^ b + z) ≡ signK b bs n x y z

@@ -1,16 +1,16 @@
--- The insert rule and the remove rule, and where two points are one. Assumes nothing.
+-- The insert rule and the remove rule, where two points are one, and the sign of an active voxel. Assumes nothing.
 use mathlib.Core.Path.{_≡_, refl, sym, _∙_, ap, subst, fun-ext}
 use mathlib.Core.Bool.{Bool, true, false, cond, false≢true}
 use mathlib.Core.List.{List, [], _∷_}
-use mathlib.Core.Option.{Option, none, some}
+use mathlib.Core.Option.{Option, none, some, Option·none-ne-some, Option·some-injective}
 use mathlib.Core.Logic.{_⊎_, inl, inr}
 use Prim.Native.Nat.{ℕ}
 use native.Mathlib.Nat.{mod-eq-of-lt}
 use lib.Dec.{T}
-use Rattle.floats.specs.Value.{far, equal}
+use Rattle.floats.specs.Value.{negative, far, equal}
 use Rattle.grid.specs.Geometry.{Point, total, slotOf, Alike}
-use Rattle.grid.specs.Node.{branch, tile, hidden, onSlot, isHidden, size, Node, SlotOf, Proper, ProperS, changed, every}
-use Rattle.grid.specs.Voxel.{lookup, lookupS, insertS, insert, kept, removeS, remove}
+use Rattle.grid.specs.Node.{branch, tile, hidden, onSlot, slot-ind, isHidden, size, Node, SlotOf, Proper, ProperS, changed, every}
+use Rattle.grid.specs.Voxel.{lookup, lookupS, signAt, signAtS, insertS, insert, kept, removeS, remove}
 use Rattle.grid.proofs.Geometry.{slot-lt, Same, same-alike}
 use Rattle.grid.proofs.Places.{every-at, changed-at, changed-same}
 
@@ -155,3 +155,12 @@ module _ (p : Point) where
   remove-there b bs n q h =
       changed-lookup b bs n (slotOf b bs p) (removeS bs p) q
       (λ e. removeS-there bs (n (slotOf b bs q)) q (λ g. h (same-alike (b ∷ bs) p q (e, g))))
+
+-- where a lookup shows a value, its sign is the sign there
+pub active-sign : (bs : List ℕ) (n : Node bs) (p : Point) (v : ℕ) → lookup bs n p ≡ some v → signAt bs n p ≡ negative v
+unfolding lookup signAt
+active-sign [] n p v e = absurd n
+active-sign (b ∷ bs) n p v e =
+    slot-ind (λ s. lookupS bs s p ≡ some v → signAtS bs s p ≡ negative v)
+    (λ c. active-sign bs c p v) (λ w h. ap negative (Option·some-injective w v h)) (λ w h. absurd (Option·none-ne-some v h))
+    (n (slotOf b bs p)) e

@@ -11,3 +11,4 @@ pub mod Guards
 pub mod Tasks
 pub mod Pairs
 pub mod Demands
+pub mod WholeSeats

@@ -6,7 +6,9 @@ pub mod Laws
 pub mod Promise
 pub mod Runs
 pub mod Chains
+pub mod Asked
 pub mod Rules
+pub mod SeatRules
 pub mod Table
 pub mod Proper
 pub mod Witness

@@ -3,7 +3,7 @@ use mathlib.Core.Path.{_≡_, refl, sym, ap, ap₂, subst}
 use mathlib.Core.Bool.{Bool, true, false, not, _&&_, cond, false≢true}
 use mathlib.Core.List.{List, [], _∷_}
 use mathlib.Core.Logic.{_⊎_, inl, inr}
-use mathlib.Core.Option.{Option, none, some}
+use mathlib.Core.Option.{Option, none, some, Option·some-injective}
 use Prim.Native.Nat.{ℕ, _<_, _≤_}
 use native.Mathlib.Omega.{arith}
 use lib.Dec.{T, leb, leb→le, le→leb}
@@ -32,6 +32,20 @@ peel false n o e = (refl, e)
 pub all-pass : (rows : List Row) (r : Reads) (c : Call) → first rows r c ≡ none → Each (λ row. row .1 r c ≡ false) rows
 all-pass [] r c e = tt
 all-pass (row ∷ rows) r c e = let h = peel (row .1 r c) (row .0) (first rows r c) e in (h .0, all-pass rows r c (h .1))
+
+-- a row that refuses has a number, from 1
+first-number : (rows : List Row) (r : Reads) (c : Call) (n : ℕ) → Each (λ row. 0 < row .0) rows → first rows r c ≡ some n → 0 < n
+first-number [] r c n h e = absurd (not-none n (sym e))
+first-number (row ∷ rows) r c n h e = go (row .1 r c) e (first-number rows r c n (h .1))
+  where
+    go : (x : Bool) → cond x (some (row .0)) (first rows r c) ≡ some n → (first rows r c ≡ some n → 0 < n) → 0 < n
+    go true e ih = subst (λ (k : ℕ). 0 < k) (Option·some-injective (row .0) n e) (h .0)
+    go false e ih = ih e
+
+pub refusal-number : (r : Reads) (c : Call) (n : ℕ) → refusal r c ≡ some n → 0 < n
+refusal-number r c n =
+    first-number order r c n
+    (omega arith, (omega arith, (omega arith, (omega arith, (omega arith, (omega arith, (omega arith, (omega arith, (omega arith, tt)))))))))
 
 -- its seats are below 8 and two are different; it has the cells that it needs
 pub below-8 : (r : Reads) (c : Call) → refusal r c ≡ none → (i : ℕ) → among i (names c) ≡ true → i < 8

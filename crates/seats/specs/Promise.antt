@@ -103,6 +103,21 @@ module _ (b : ℕ) (bs : List ℕ) where
     abbrev pub Promise : Call → 𝓜 .Mem → Answer → 𝓜 .Mem → Type 0
     Promise c m r m' = Keeps (verdict c m) c m r m'
 
+    -- the call c is accepted on m and leaves m'; and r is an answer to the call c on m
+    abbrev pub Turns : Call → 𝓜 .Mem → 𝓜 .Mem → Type 0
+    Turns c m m' = Promise c m done m'
+
+    abbrev pub Answers : Call → 𝓜 .Mem → Answer → Type 0
+    Answers c m r = (m' : 𝓜 .Mem) × Promise c m r m'
+
+    -- the free cells of m are counted as k
+    abbrev pub Counts : 𝓜 .Mem → ℕ → Type 0
+    Counts m k = Answers Count m (freeCells k)
+
+    -- every lookup in seat i' of m' is answered as in seat i of m
+    abbrev pub LooksAlike : 𝓜 .Mem → ℕ → 𝓜 .Mem → ℕ → Type 0
+    LooksAlike m i m' i' = (p : Point) (r r' : Answer) → Answers (One i (Lookup p)) m r → Answers (One i' (Lookup p)) m' r' → r' ≡ r
+
     -- ---- runs
 
     pub record Event : Type 0 where
