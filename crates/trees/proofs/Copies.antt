@@ -9,14 +9,14 @@ use native.Mathlib.Omega.{arith}
 use lib.ListN.{length, getD, set, length-set}
 use lib.Dec.{ltb, eqb}
 use borrow.Author.Tests.{lt-ltb, le-ltb, eq-eqb, ne-eqb}
-use Rattle.bitset.specs.Set.{bitOf}
+use Rattle.bitset.specs.Set.{bitOf, wordBit}
 use Rattle.bitset.proofs.Digits.{lt-or-le, is-or-not}
 use Rattle.bitset.proofs.Words.{zero-bit, bit-rem}
 use Rattle.bitset.proofs.Sets.{bit-set, has-own}
 use Rattle.floats.specs.Value.{far}
 use Rattle.grid.specs.Node.{size}
 use Rattle.nodes.specs.State.{St}
-use Rattle.nodes.specs.Layout.{st, wordOf}
+use Rattle.nodes.specs.Layout.{st, wordOf, slotsLength}
 use Rattle.nodes.specs.Change.{at2}
 use Rattle.nodes.specs.Range.{In}
 use Rattle.nodes.specs.Steps.{slotS}
@@ -73,76 +73,107 @@ module _ {A : Type 0} (f : ℕ → A) (g : ℕ) (a : ℕ → A) where
     | inr e ↦ rw (ne-eqb (i / 64) g e) refl
   ]
 
--- they are given what group h has
-abbrev pub moved : {A : Type 0} → (ℕ → A) → ℕ → ℕ → ℕ → ℕ → A
-moved f g h = first f g (λ r. f (64 * h + r))
-
--- ---- the words: the loop that copies group h to group g, of which i are done
-pub record Copied (g h : ℕ) (l₀ l : List ℕ) (i : ℕ) : Type 0 where
+-- ---- the words: the loop that gives group g the words a, of which i are done
+pub record Given (g : ℕ) (a : ℕ → ℕ) (l₀ l : List ℕ) (i : ℕ) : Type 0 where
   pub long : length l ≡ length l₀
-  pub words : (p : ℕ) → getD l p 0 ≡ moved (λ q. getD l₀ q 0) g h i p
+  pub words : (p : ℕ) → getD l p 0 ≡ first (λ q. getD l₀ q 0) g a i p
 
-pub copied-none : (g h : ℕ) (l : List ℕ) → Copied g h l l 0
-copied-none g h l = record { long = refl; words = first-none (λ q. getD l q 0) g (λ r. getD l (64 * h + r) 0) }
+pub given-none : (g : ℕ) (a : ℕ → ℕ) (l : List ℕ) → Given g a l l 0
+given-none g a l = record { long = refl; words = first-none (λ q. getD l q 0) g a }
 
-module _ {g h : ℕ} {l₀ l : List ℕ} {i : ℕ} (d : Copied g h l₀ l i) where
-  pub copied-more : (to from : ℕ) → to ≡ 64 * g + i → from ≡ 64 * h + i → to < length l₀ → i < 64 → Copied g h l₀ (set l to (getD l from 0)) (i + 1)
-  copied-more to from e e' b m =
-      let f : ℕ → ℕ = λ q. getD l₀ q 0 in
-      let a : ℕ → ℕ = λ r. f (64 * h + r) in
-      record {
-        long = length-set l to (getD l from 0) ∙ d .long;
-        words = λ p.
-            getD-set l to (getD l from 0) (omega (arith, d .long)) p
-            ∙ (λ z. cond (eqb p (e z)) ((ap (λ (q : ℕ). getD l q 0) e' ∙ d .words (64 * h + i) ∙ first-left f g a i h m) z) (d .words p z))
-            ∙ first-more f g a i m p ∙ sym (rw add-one refl);
-      }
+module _ {g : ℕ} {a : ℕ → ℕ} {l₀ l : List ℕ} {i : ℕ} (d : Given g a l₀ l i) where
+  -- word i of any group is as it was
+  pub given-left : (p h : ℕ) → p ≡ 64 * h + i → i < 64 → getD l p 0 ≡ getD l₀ (64 * h + i) 0
+  given-left p h e m = ap (λ (q : ℕ). getD l q 0) e ∙ d .words (64 * h + i) ∙ first-left (λ q. getD l₀ q 0) g a i h m
 
-  pub copied-all : i ≡ 64 → (p : ℕ) → getD l p 0 ≡ cond (eqb (p / 64) g) (getD l₀ (64 * h + p % 64) 0) (getD l₀ p 0)
-  copied-all e p =
-      d .words p ∙ ap (λ (m : ℕ). moved (λ q. getD l₀ q 0) g h m p) e
-      ∙ first-all (λ q. getD l₀ q 0) g (λ r. getD l₀ (64 * h + r) 0) p
+  pub given-more : (p v : ℕ) → p ≡ 64 * g + i → v ≡ a i → p < length l₀ → i < 64 → Given g a l₀ (set l p v) (i + 1)
+  given-more p v e e' b m = record {
+    long = length-set l p v ∙ d .long;
+    words = λ q.
+        getD-set l p v (omega (arith, d .long)) q ∙ (λ z. cond (eqb q (e z)) (e' z) (d .words q z))
+        ∙ first-more (λ q. getD l₀ q 0) g a i m q ∙ sym (rw add-one refl);
+  }
 
--- ---- the masks: word p is 0, and word q is what word h was
+  pub given-all : i ≡ 64 → (p : ℕ) → getD l p 0 ≡ cond (eqb (p / 64) g) (a (p % 64)) (getD l₀ p 0)
+  given-all e p = d .words p ∙ ap (λ (m : ℕ). first (λ q. getD l₀ q 0) g a m p) e ∙ first-all (λ q. getD l₀ q 0) g a p
+
+-- ---- the masks: the bits of word h
+pub word-at : (mk : List ℕ) (h j : ℕ) → wordBit (getD mk h 0) j ≡ bitOf mk (64 * h + j % 64)
+word-at mk h j = bit-rem (getD mk h 0) j ∙ has-own mk h (j % 64) (omega arith)
+
+-- word p is 0, and word q is what word h was
 pub masks-copied : (mk : List ℕ) (p q h : ℕ) → p < length mk → q < length mk → (j : ℕ)
     → bitOf (set (set mk p 0) q (getD mk h 0)) j ≡ cond (eqb (j / 64) q) (bitOf mk (64 * h + j % 64)) (cond (eqb (j / 64) p) false (bitOf mk j))
 masks-copied mk p q h hp hq j =
     bit-set (set mk p 0) q (getD mk h 0) (omega (arith, length-set mk p 0)) j
-    ∙ (λ i. cond (eqb (j / 64) q) ((bit-rem (getD mk h 0) j ∙ has-own mk h (j % 64) (omega arith)) i)
+    ∙ (λ i. cond (eqb (j / 64) q) (word-at mk h j i)
     ((bit-set mk p 0 hp j ∙ ap (λ (t : Bool). cond (eqb (j / 64) p) t (bitOf mk j)) (zero-bit j)) i))
 
--- ---- a leaf as one piece: the steps at its slots, by the places of groups 56 + x and 56 + y
-module _ {A : Type 0} (n : ℕ) (d : A) (f : ℕ → A) (y m : ℕ) (hy : 8 ≤ y) (l : m < 64) (iy : In n y m) where
-  -- slot m of cell y is given a m
-  spread-first : (a : ℕ → A) (z j : ℕ) → at2 (spread n d (first f (56 + y) a m)) y m (a m) z j ≡ spread n d (first f (56 + y) a (suc m)) z j
-  spread-first a z j = sym (spread-one n d (first f (56 + y) a m) (first f (56 + y) a (suc m)) y m (a m) iy (λ i _.
+-- ---- a leaf as one piece: the first m slots of cell y are given what op makes of them and of those of cell x, which may be y, by the places of groups 56 + y and 56 + x
+module _ {A : Type 0} (n : ℕ) (d : A) (op : A → A → A) (f : ℕ → A) (x y : ℕ) where
+  abbrev made : ℕ → A
+  made r = op (f (64 * (56 + y) + r)) (f (64 * (56 + x) + r))
+
+  abbrev pub blent : ℕ → ℕ → ℕ → A
+  blent m = spread n d (first f (56 + y) made m)
+
+  pub blent-none : (z j : ℕ) → spread n d f z j ≡ blent 0 z j
+  blent-none z j = sym (spread-same n d f (first f (56 + y) made 0) (λ i _. sym (first-none f (56 + y) made i)) z j)
+
+  -- a slot that is not given anything yet
+  blent-left : (m z : ℕ) → 8 ≤ z → m < 64 → In n z m → blent m z m ≡ f (64 * (56 + z) + m)
+  blent-left m z h l i =
+      let w : wordOf z m ≡ 64 * (56 + z) + m = omega (arith, word-cell z m h) in
+      spread-in n d (first f (56 + y) made m) i ∙ ap (first f (56 + y) made m) w ∙ first-left f (56 + y) made m (56 + z) l
+
+  -- one more
+  pub blent-more : 8 ≤ x → 8 ≤ y → (m : ℕ) → m < 64 → In n x m → In n y m → (z j : ℕ) → at2 (blent m) y m (op (blent m y m) (blent m x m)) z j ≡ blent (suc m) z j
+  blent-more hx hy m l ix iy z j =
       let w : 64 * (56 + y) + m ≡ wordOf y m = omega (arith, word-cell y m hy) in
-      sym (first-more f (56 + y) a m l i) ∙ ap (λ (t : ℕ). cond (eqb i t) (a m) (first f (56 + y) a m i)) w) z j)
+      (λ i. at2 (blent m) y m (op (blent-left m y hy l iy i) (blent-left m x hx l ix i)) z j)
+      ∙ sym (spread-one n d (first f (56 + y) made m) (first f (56 + y) made (suc m)) y m (made m) iy (λ i _.
+      sym (first-more f (56 + y) made m l i) ∙ ap (λ (t : ℕ). cond (eqb i t) (made m) (first f (56 + y) made m i)) w) z j)
 
-  -- what slot m of cell x has, also where x is y
-  spread-copy : (x : ℕ) → 8 ≤ x → In n x m → (z j : ℕ)
-      → at2 (spread n d (moved f (56 + y) (56 + x) m)) y m (spread n d (moved f (56 + y) (56 + x) m) x m) z j ≡ spread n d (moved f (56 + y) (56 + x) (suc m)) z j
-  spread-copy x hx ix z j =
-      let a : ℕ → A = λ r. f (64 * (56 + x) + r) in
-      let w : wordOf x m ≡ 64 * (56 + x) + m = omega (arith, word-cell x m hx) in
-      ap (λ (t : A). at2 (spread n d (first f (56 + y) a m)) y m t z j) (spread-in n d (first f (56 + y) a m) ix ∙ ap (first f (56 + y) a m) w ∙ first-left f (56 + y) a m (56 + x) l)
-      ∙ spread-first a z j
+  pub blent-all : (f' : ℕ → A) → ((i : ℕ) → i < slotsLength n → f' i ≡ cond (eqb (i / 64) (56 + y)) (made (i % 64)) (f i)) → (z j : ℕ) → spread n d f' z j ≡ blent 64 z j
+  blent-all f' h = spread-same n d (first f (56 + y) made 64) f' (λ i l. h i l ∙ sym (first-all f (56 + y) made i))
 
+-- the words and the values of the leaf, by the promises about them; the other bits are b
+module _ (n x y : ℕ) (hx : 8 ≤ x) (hy : 8 ≤ y) where
+  pub leaf-words : (op : ℕ → ℕ → ℕ) (l l' : List ℕ)
+      → ((i : ℕ) → getD l' i 0 ≡ cond (eqb (i / 64) (64 + (y - 8))) (op (getD l (64 * (64 + (y - 8)) + i % 64) 0) (getD l (64 * (64 + (x - 8)) + i % 64) 0)) (getD l i 0))
+      → (z j : ℕ) → spread n 0 (λ i. getD l' i 0) z j ≡ blent n 0 op (λ i. getD l i 0) x y 64 z j
+  leaf-words op l l' p =
+      let ex : 64 + (x - 8) ≡ 56 + x = omega arith in
+      let ey : 64 + (y - 8) ≡ 56 + y = omega arith in
+      blent-all n 0 op (λ i. getD l i 0) x y (λ i. getD l' i 0) (λ i _.
+      p i ∙ (λ z. cond (eqb (i / 64) (ey z)) (op (getD l (64 * ey z + i % 64) 0) (getD l (64 * ex z + i % 64) 0)) (getD l i 0)))
+
+  pub leaf-values : (op : Bool → Bool → Bool) (m m' : List ℕ) (b : ℕ → Bool)
+      → ((j : ℕ) → bitOf m' j ≡ cond (eqb (j / 64) (128 + n + (y - 8))) (op (bitOf m (64 * (128 + n + (y - 8)) + j % 64)) (bitOf m (64 * (128 + n + (x - 8)) + j % 64))) (b j))
+      → ((i : ℕ) → b (64 * (64 + n) + i) ≡ bitOf m (64 * (64 + n) + i))
+      → (z j : ℕ) → spread n false (λ i. bitOf m' (64 * (64 + n) + i)) z j ≡ blent n false op (λ i. bitOf m (64 * (64 + n) + i)) x y 64 z j
+  leaf-values op m m' b q r = blent-all n false op (λ i. bitOf m (64 * (64 + n) + i)) x y (λ i. bitOf m' (64 * (64 + n) + i)) (λ i _. q (64 * (64 + n) + i) ∙ value i)
+    where
+      value : (i : ℕ) → cond (eqb ((64 * (64 + n) + i) / 64) (128 + n + (y - 8))) (op (bitOf m (64 * (128 + n + (y - 8)) + (64 * (64 + n) + i) % 64)) (bitOf m (64 * (128 + n + (x - 8)) + (64 * (64 + n) + i) % 64))) (b (64 * (64 + n) + i))
+          ≡ cond (eqb (i / 64) (56 + y)) (op (bitOf m (64 * (64 + n) + (64 * (56 + y) + i % 64))) (bitOf m (64 * (64 + n) + (64 * (56 + x) + i % 64)))) (bitOf m (64 * (64 + n) + i))
+      value i = elim (is-or-not (i / 64) (56 + y)) [
+        | inl e ↦
+            let wx : 64 * (128 + n + (x - 8)) + (64 * (64 + n) + i) % 64 ≡ 64 * (64 + n) + (64 * (56 + x) + i % 64) = omega arith in
+            let wy : 64 * (128 + n + (y - 8)) + (64 * (64 + n) + i) % 64 ≡ 64 * (64 + n) + (64 * (56 + y) + i % 64) = omega arith in
+            rw (eq-eqb ((64 * (64 + n) + i) / 64) (128 + n + (y - 8)) (omega arith), eq-eqb (i / 64) (56 + y) e) (λ z. op (bitOf m (wy z)) (bitOf m (wx z)))
+        | inr e ↦ rw (ne-eqb ((64 * (64 + n) + i) / 64) (128 + n + (y - 8)) (λ q. e (omega arith)), ne-eqb (i / 64) (56 + y) e) (r i)
+      ]
+
+-- ---- a leaf copied
 module _ (n : ℕ) (sl mk book : List ℕ) (x y : ℕ) (hx : 8 ≤ x) (hy : 8 ≤ y) (nx : x < 8 + n) (ny : y < 8 + n) where
-  abbrev words : ℕ → ℕ
-  words i = getD sl i 0
-
-  abbrev vals : ℕ → Bool
-  vals i = bitOf mk (64 * (64 + n) + i)
-
   -- the first m slots are copied
   copiedS : ℕ → St
   copiedS m =
       let s = st n sl mk book in
       record {
-        slot = spread n 0 (moved words (56 + y) (56 + x) m);
-        kid = spread n false (first (bitOf mk) (56 + y) (λ _. false) m);
-        val = spread n false (moved vals (56 + y) (56 + x) m);
+        slot = blent n 0 (λ _ b. b) (λ i. getD sl i 0) x y m;
+        kid = blent n false (λ _ _. false) (bitOf mk) x y m;
+        val = blent n false (λ _ b. b) (λ i. bitOf mk (64 * (64 + n) + i)) x y m;
         count = s .count;
         stack = s .stack;
         tag = s .tag;
@@ -152,46 +183,33 @@ module _ (n : ℕ) (sl mk book : List ℕ) (x y : ℕ) (hx : 8 ≤ x) (hy : 8 �
   each-same : (m : ℕ) → m ≤ 64 → eachS (sameS x y) m (st n sl mk book) ≡ copiedS m
   unfolding eachS slotS copiedS st
   each-same zero h = st-ext _ _
-      (λ z j. sym (spread-same n 0 words (moved words (56 + y) (56 + x) 0) (λ i _. sym (first-none words (56 + y) (λ r. words (64 * (56 + x) + r)) i)) z j))
-      (λ z j. sym (spread-same n false (bitOf mk) (first (bitOf mk) (56 + y) (λ _. false) 0) (λ i _. sym (first-none (bitOf mk) (56 + y) (λ _. false) i)) z j))
-      (λ z j. sym (spread-same n false vals (moved vals (56 + y) (56 + x) 0) (λ i _. sym (first-none vals (56 + y) (λ r. vals (64 * (56 + x) + r)) i)) z j))
+      (blent-none n 0 (λ _ b. b) (λ i. getD sl i 0) x y)
+      (blent-none n false (λ _ _. false) (bitOf mk) x y)
+      (blent-none n false (λ _ b. b) (λ i. bitOf mk (64 * (64 + n) + i)) x y)
       refl (λ _. refl) (λ _. refl) (λ _. refl)
   each-same (suc m) h =
       let ix : In n x m = record { node = nx; slot = omega (arith, wide-cell x hx) } in
       let iy : In n y m = record { node = ny; slot = omega (arith, wide-cell y hy) } in
       ap (sameS x y m) (each-same m (omega arith)) ∙ st-ext _ _
-      (spread-copy n 0 words y m hy (omega arith) iy x hx ix)
-      (spread-first n false (bitOf mk) y m hy (omega arith) iy (λ _. false))
-      (spread-copy n false vals y m hy (omega arith) iy x hx ix)
+      (blent-more n 0 (λ _ b. b) (λ i. getD sl i 0) x y hx hy m (omega arith) ix iy)
+      (blent-more n false (λ _ _. false) (bitOf mk) x y hx hy m (omega arith) ix iy)
+      (blent-more n false (λ _ b. b) (λ i. bitOf mk (64 * (64 + n) + i)) x y hx hy m (omega arith) ix iy)
       refl (λ _. refl) (λ _. refl) (λ _. refl)
 
-  module _ (sl' mk' : List ℕ) where
-    pub leaf-copied : ((i : ℕ) → getD sl' i 0 ≡ cond (eqb (i / 64) (64 + (y - 8))) (getD sl (64 * (64 + (x - 8)) + i % 64) 0) (getD sl i 0))
-        → ((j : ℕ) → bitOf mk' j ≡ cond (eqb (j / 64) (128 + n + (y - 8))) (bitOf mk (64 * (128 + n + (x - 8)) + j % 64)) (cond (eqb (j / 64) (64 + (y - 8))) false (bitOf mk j)))
-        → st n sl' mk' book ≡ copyM (branching 0) (below 0) n x y (st n sl mk book)
-    unfolding copyM size copiedS st
-    leaf-copied p q =
-        let ex : 64 + (x - 8) ≡ 56 + x = omega arith in
-        let ey : 64 + (y - 8) ≡ 56 + y = omega arith in
-        st-ext _ _
-        (spread-same n 0 (moved words (56 + y) (56 + x) 64) (λ i. getD sl' i 0) (λ i _.
-        p i ∙ (λ z. cond (eqb (i / 64) (ey z)) (words (64 * ex z + i % 64)) (words i)) ∙ sym (first-all words (56 + y) (λ r. words (64 * (56 + x) + r)) i)))
-        (spread-same n false (first (bitOf mk) (56 + y) (λ _. false) 64) (bitOf mk') (λ i l.
-        q i ∙ rw (ne-eqb (i / 64) (128 + n + (y - 8)) (λ e. omega arith)) (ap (λ (t : ℕ). cond (eqb (i / 64) t) false (bitOf mk i)) ey) ∙ sym (first-all (bitOf mk) (56 + y) (λ _. false) i)))
-        (spread-same n false (moved vals (56 + y) (56 + x) 64) (λ i. bitOf mk' (64 * (64 + n) + i)) (λ i l.
-        q (64 * (64 + n) + i) ∙ value i ∙ sym (first-all vals (56 + y) (λ r. vals (64 * (56 + x) + r)) i)))
-        refl (λ _. refl) (λ _. refl) (λ _. refl)
-        ∙ sym (each-same 64 (omega arith))
-      where
-        value : (i : ℕ) → cond (eqb ((64 * (64 + n) + i) / 64) (128 + n + (y - 8))) (bitOf mk (64 * (128 + n + (x - 8)) + (64 * (64 + n) + i) % 64)) (cond (eqb ((64 * (64 + n) + i) / 64) (64 + (y - 8))) false (vals i))
-            ≡ cond (eqb (i / 64) (56 + y)) (vals (64 * (56 + x) + i % 64)) (vals i)
-        value i = elim (is-or-not (i / 64) (56 + y)) [
-          | inl e ↦
-              let w : 64 * (128 + n + (x - 8)) + (64 * (64 + n) + i) % 64 ≡ 64 * (64 + n) + (64 * (56 + x) + i % 64) = omega arith in
-              rw (eq-eqb ((64 * (64 + n) + i) / 64) (128 + n + (y - 8)) (omega arith), eq-eqb (i / 64) (56 + y) e) (ap (bitOf mk) w)
-          | inr e ↦
-              rw (ne-eqb ((64 * (64 + n) + i) / 64) (128 + n + (y - 8)) (λ q. e (omega arith)), ne-eqb (i / 64) (56 + y) e, ne-eqb ((64 * (64 + n) + i) / 64) (64 + (y - 8)) (λ q. omega arith)) refl
-        ]
+  pub leaf-copied : (sl' mk' : List ℕ) → ((i : ℕ) → getD sl' i 0 ≡ cond (eqb (i / 64) (64 + (y - 8))) (getD sl (64 * (64 + (x - 8)) + i % 64) 0) (getD sl i 0))
+      → ((j : ℕ) → bitOf mk' j ≡ cond (eqb (j / 64) (128 + n + (y - 8))) (bitOf mk (64 * (128 + n + (x - 8)) + j % 64)) (cond (eqb (j / 64) (64 + (y - 8))) false (bitOf mk j)))
+      → st n sl' mk' book ≡ copyM (branching 0) (below 0) n x y (st n sl mk book)
+  unfolding copyM size copiedS st
+  leaf-copied sl' mk' p q =
+      let ey : 64 + (y - 8) ≡ 56 + y = omega arith in
+      st-ext _ _
+      (leaf-words n x y hx hy (λ _ b. b) sl sl' p)
+      (blent-all n false (λ _ _. false) (bitOf mk) x y (bitOf mk') (λ i l.
+      q i ∙ rw (ne-eqb (i / 64) (128 + n + (y - 8)) (λ e. omega arith)) (ap (λ (t : ℕ). cond (eqb (i / 64) t) false (bitOf mk i)) ey)))
+      (leaf-values n x y hx hy (λ _ b. b) mk mk' (λ j. cond (eqb (j / 64) (64 + (y - 8))) false (bitOf mk j)) q (λ i.
+      rw (ne-eqb ((64 * (64 + n) + i) / 64) (64 + (y - 8)) (λ e. omega arith)) refl))
+      refl (λ _. refl) (λ _. refl) (λ _. refl)
+      ∙ sym (each-same 64 (omega arith))
 
 -- ---- one slot that is no branch
 pub same-by : (x y k : ℕ) (s : St) {w : ℕ} {a : Bool} {t : St} → w ≡ s .slot x k → a ≡ s .val x k → t ≡ slotS y k w false a s → t ≡ sameS x y k s

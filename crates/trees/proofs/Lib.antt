@@ -6,3 +6,6 @@ pub mod Rows
 pub mod Fills
 pub mod Counts
 pub mod Copies
+pub mod Joins
+pub mod Plans
+pub mod Takes

@@ -43,9 +43,6 @@ joinW Intersect v w = most v w
 abbrev pub FiniteLeaf : List ℕ → ℕ → Type 0
 FiniteLeaf slots c = (k : ℕ) → k < 64 → isFinite (getD slots (64 * (64 + c) + k) 0) ≡ true
 
-abbrev pub Other : ℕ → ℕ → Type 0
-Other c d = c ≡ d → ⊥
-
 -- slot k of leaf x, joined with that of leaf y: "masks are joined"
 unfoldable pub joinS : Join → ℕ → ℕ → ℕ → St → St
 joinS j x y k s = putS x k (joinW j (s .slot x k) (s .slot y k)) (s .val x k || s .val y k) s

@@ -14,7 +14,7 @@ ghost use Rattle.floats.specs.Value.{isFinite};
 ghost use Rattle.nodes.specs.Layout.{st, slotsLength};
 ghost use Rattle.nodes.specs.Range.{Stands, Cells, Masked};
 ghost use Rattle.nodes.specs.Walk.{branching, below};
-ghost use Rattle.trees.specs.Combine.{FiniteLeaf, Other, joinW, combineM};
+ghost use Rattle.trees.specs.Combine.{FiniteLeaf, joinW, combineM};
 
 // "union takes minima, .. intersect maxima".
 fn join_words(join: Join, v: u32, w: u32) -> u32
@@ -29,9 +29,9 @@ fn join_words(join: Join, v: u32, w: u32) -> u32
 
 // The 64 words of cell c, joined with those of cell d.
 fn join_values(slots: &mut [u32], c: usize, d: usize, join: Join)
-    requires { ⌜ (c < 65536) × (d < 65536) × (slotsLength (c + 1) ≤ length (now slots)) × (slotsLength (d + 1) ≤ length (now slots)) × (Other c d) × (FiniteLeaf (now slots) c) × (FiniteLeaf (now slots) d) ⌝ }
+    requires { ⌜ (c < 65536) × (d < 65536) × (slotsLength (c + 1) ≤ length (now slots)) × (slotsLength (d + 1) ≤ length (now slots)) × (FiniteLeaf (now slots) c) × (FiniteLeaf (now slots) d) ⌝ }
     ensures { λ _. ⌜ ((i : ℕ) → getD (now (slots .exit)) i 0
-        ≡ cond (eqb (i / 64) (64 + c)) (joinW join (getD (now (slots .entry)) i 0) (getD (now (slots .entry)) (64 * (64 + d) + i % 64) 0)) (getD (now (slots .entry)) i 0)) ⌝ }
+        ≡ cond (eqb (i / 64) (64 + c)) (joinW join (getD (now (slots .entry)) (64 * (64 + c) + i % 64) 0) (getD (now (slots .entry)) (64 * (64 + d) + i % 64) 0)) (getD (now (slots .entry)) i 0)) ⌝ }
 {
     let a = TOPS + CELL * c;
     let b = TOPS + CELL * d;
@@ -46,14 +46,14 @@ fn join_values(slots: &mut [u32], c: usize, d: usize, join: Join)
 fn join_masks(masks: &mut [u64], n: usize, c: usize, d: usize)
     requires { ⌜ (Masked n (now masks)) × (c < n) × (d < n) ⌝ }
     ensures { λ _. ⌜ ((j : ℕ) → bitOf (now (masks .exit)) j
-        ≡ cond (eqb (j / 64) (128 + n + c)) (bitOf (now (masks .entry)) j || bitOf (now (masks .entry)) (64 * (128 + n + d) + j % 64)) (bitOf (now (masks .entry)) j)) ⌝ }
+        ≡ cond (eqb (j / 64) (128 + n + c)) (bitOf (now (masks .entry)) (64 * (128 + n + c) + j % 64) || bitOf (now (masks .entry)) (64 * (128 + n + d) + j % 64)) (bitOf (now (masks .entry)) j)) ⌝ }
 {
     masks[BOTH_TOP_MASKS + n + c] = masks[BOTH_TOP_MASKS + n + c] | masks[BOTH_TOP_MASKS + n + d];
 }
 
-// Leaf y joined into leaf x, which is another one, as one piece. The promise holds whatever the book.
+// Leaf y joined into leaf x, as one piece. The promise holds whatever the book.
 pub fn join_leaf(slots: &mut [u32], masks: &mut [u64], n: usize, x: usize, y: usize, join: Join)
-    requires { ⌜ (Cells n (now slots) (now masks)) × (Stands n 0 x) × (Stands n 0 y) × (Other (x - 8) (y - 8)) × (FiniteLeaf (now slots) (x - 8)) × (FiniteLeaf (now slots) (y - 8)) ⌝ }
+    requires { ⌜ (Cells n (now slots) (now masks)) × (Stands n 0 x) × (Stands n 0 y) × (FiniteLeaf (now slots) (x - 8)) × (FiniteLeaf (now slots) (y - 8)) ⌝ }
     ensures { λ _. ⌜ ((book : List ℕ) → st n (now (slots .exit)) (now (masks .exit)) book ≡ combineM (branching 0) (below 0) join n x y (st n (now (slots .entry)) (now (masks .entry)) book)) ⌝ }
 {
     join_values(slots, x - 8, y - 8, join);

@@ -1,11 +1,12 @@
-use Prim.Native.Nat.{_+_, _-_, _≤_}
+use Prim.Native.Nat.{_+_, _-_, _*_, _≤_}
 use native.Mathlib.Omega.{arith}
-use Rattle.trees.proofs.Copies.{Copied, copied-none, copied-more, copied-all}
+use lib.ListN.{getD}
+use Rattle.trees.proofs.Copies.{Given, given-none, given-left, given-more, given-all}
 use Rattle.trees.proofs.copy.copy_words.Statement.{statement}
 use Rattle.trees.proofs.copy.copy_words.Tie as tie
 
 abbrev Inv-loop : tie.InvT-loop
-Inv-loop slots₀ c d from to i₀ slots i = (i ≤ 64) × Copied (64 + d) (64 + c) slots₀ slots i
+Inv-loop slots₀ c d from to i₀ slots i = (i ≤ 64) × Given (64 + d) (λ r. getD slots₀ (64 * (64 + c) + r) 0) slots₀ slots i
 
 abbrev μ-loop : tie.MeasureT-loop
 μ-loop slots₀ c d from to i₀ slots i = 64 - i
@@ -23,7 +24,7 @@ add-to : tie.Need-add-to Inv-loop μ-loop
 add-to c = omega arith
 
 loop-holds : tie.Need-loop-holds Inv-loop μ-loop
-loop-holds c = (omega arith, copied-none _ _ _)
+loop-holds c = (omega arith, given-none _ _ _)
 
 add-slots : tie.Need-add-slots Inv-loop μ-loop
 add-slots c = omega arith
@@ -50,13 +51,13 @@ loop-less : tie.Need-loop-less Inv-loop μ-loop
 loop-less c = omega arith
 
 loop-again : tie.Need-loop-again Inv-loop μ-loop
-loop-again c = (omega arith, copied-more (c .before .before .loop .inv .1) _ _ (omega arith) (omega arith) (omega arith) (omega arith))
+loop-again c = (omega arith, given-more (c .before .before .loop .inv .1) _ _ (omega arith) (given-left (c .before .before .loop .inv .1) _ _ (omega arith) (omega arith)) (omega arith) (omega arith))
 
 same-length : tie.Need-same-length Inv-loop μ-loop
 same-length c = c .before .loop .inv .1 .long
 
 returns : tie.Need-returns Inv-loop μ-loop
-returns c = copied-all (c .before .loop .inv .1) (omega arith)
+returns c = given-all (c .before .loop .inv .1) (omega arith)
 
 pub copy-words-spec : {M : Type 1} → statement M
 copy-words-spec =
