@@ -1,6 +1,6 @@
 -- Node y joined into node x, on a sound pool: x becomes the meaning's combination, and nothing outside the two trees changes. Two seats are combined, and the second
 -- is cleared. Assumes nothing.
-use mathlib.Core.Path.{_≡_, refl, sym, ap, ap₂, _∙_, subst}
+use mathlib.Core.Path.{_≡_, refl, sym, ap, ap₂, _∙_, subst, fun-ext}
 use mathlib.Core.Bool.{Bool, true, false, cond, _||_, Bool·beq}
 use mathlib.Core.List.{List, [], _∷_}
 use mathlib.Core.Logic.{_≢_}
@@ -10,8 +10,9 @@ use Rattle.floats.specs.Value.{isFinite, negative, far}
 use Rattle.floats.proofs.Words.{on-case}
 use Rattle.floats.proofs.Finite.{finite-far, finite-farWith, finite-least, finite-most}
 use Rattle.grid.specs.Node.{branch, tile, hidden, onSlot, slot-ind, Node, SlotOf, changed}
-use Rattle.grid.specs.Whole.{clear}
-use Rattle.grid.specs.Combine.{joined, staysWith, taken, underB, underA, joinedVoxels, combineS}
+use Rattle.grid.specs.Whole.{clear, flipS}
+use Rattle.grid.proofs.Subtract.{subtract-is}
+use Rattle.grid.specs.Combine.{Operation, union, subtract, intersect, joined, staysWith, taken, underB, underA, joinedVoxels, combineS}
 use Rattle.nodes.specs.State.{St, Sound, flat}
 use Rattle.nodes.specs.Each.{eachS}
 use Rattle.nodes.specs.Walk.{branching, below, viewS}
@@ -20,12 +21,14 @@ use Rattle.nodes.specs.declared.walk.Slot.{Slot}
 use Rattle.nodes.specs.declared.walk.Slot.the-variants.{Branch, Tile, Hidden}
 use Rattle.trees.specs.Plan.{settles, settledWord, settledOn, valuePlan, flatPlan, branchPlan, planS}
 use Rattle.trees.specs.Combine.{joinW, joinS, carryOutS, combineAt, combineM}
+use Rattle.trees.specs.Turn.{turnM}
+use Rattle.trees.specs.declared.turn.Work.the-variants.{Flip}
 use Rattle.trees.specs.declared.plan.Join.{Join}
 use Rattle.trees.specs.declared.plan.Join.the-variants.{Union, Intersect}
 use Rattle.trees.specs.declared.plan.Plan.{Plan}
 use Rattle.trees.specs.declared.plan.Plan.the-variants.{Stay, Settle, Take, Go}
 use Rattle.means.specs.Level.{levels, span, treeAt, At, Turned}
-use Rattle.means.specs.Joined.{joinO, Joined, Combined}
+use Rattle.means.specs.Joined.{joinO, Joined, Combined, combinedS}
 use Rattle.means.proofs.Levels.{leaf-ends, at-link, at-down, at-leaf-finite}
 use Rattle.means.proofs.Slots.{tree-leaf, tree-branch, tree-flat}
 use Rattle.means.proofs.Turned.{idle, ruled, others}
@@ -34,6 +37,7 @@ use Rattle.means.proofs.Each.{upto}
 use Rattle.means.proofs.Wipe.{wipe-slot, wipe-clear}
 use Rattle.means.proofs.Joined.{joined-first, joined-ruled, joined-others, below-differ, joined-lift, joined-upto, joined-each}
 use Rattle.means.proofs.Take.{take-joined}
+use Rattle.means.proofs.Turn.{turn-right}
 
 -- ---- the meaning at one slot; a slot that is no branch holds u, active if v says so
 flat-on : {B C : Type 0} (f : C → B) (g : ℕ → B) (v : Bool) (u : ℕ) → onSlot f g g (cond v (tile u) (hidden u)) ≡ g u
@@ -261,3 +265,29 @@ module _ {n : ℕ} {s : St} (sd : Sound n s) (a b : ℕ) (ha : a < 8) (hb : b < 
         others = λ t h na nb. joined-others sd (ha, refl) (hb, refl) p t (h, refl) na nb ∙ others (p .sound) b t hb h nb w;
         marks = w .marks ∙ p .marks;
       }
+
+-- the three operations: a subtraction is an intersection with b flipped
+module _ {n : ℕ} {s : St} (sd : Sound n s) (a b : ℕ) (ha : a < 8) (hb : b < 8) (ne : a ≢ b) where
+  abbrev By : Operation → Type 0
+  By o = Combined n a b s (combinedS o n a b s) (λ i. combineS o (2 ∷ 2 ∷ []) (treeAt 2 s a i) (treeAt 2 s b i))
+
+  subtracted : By subtract
+  unfolding combinedS
+  subtracted =
+      let f : Turned n 2 b s (turnM 3 (2 ∷ 2 ∷ []) Flip n b s) (λ i. flipS (2 ∷ 2 ∷ []) (treeAt 2 s b i)) = turn-right Flip 2 b sd (hb, refl) in
+      let c = combined-seats (f .sound) a b ha hb ne Intersect in
+      record {
+        sound = c .sound;
+        grid = c .grid
+            ∙ fun-ext (λ i. ap₂ (combineS intersect (2 ∷ 2 ∷ [])) (ap (λ (g : Node (levels 2)). g i) (sym (others sd b a hb ha ne f))) (ap (λ (g : Node (levels 2)). g i) (f .grid))
+            ∙ sym (subtract-is (2 ∷ 2 ∷ []) (treeAt 2 s a i) (treeAt 2 s b i)));
+        cleared = c .cleared;
+        others = λ t h na nb. others sd b t hb h nb f ∙ c .others t h na nb;
+        marks = c .marks ∙ f .marks;
+      }
+
+  pub combined-by : (o : Operation) → By o
+  unfolding combinedS
+  combined-by union = combined-seats sd a b ha hb ne Union
+  combined-by subtract = subtracted
+  combined-by intersect = combined-seats sd a b ha hb ne Intersect

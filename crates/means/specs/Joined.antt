@@ -1,12 +1,18 @@
 -- The relation in which every change of two nodes of one level stands, of which one, y, is joined into the other, x. Assumes nothing.
 use mathlib.Core.Path.{_≡_}
+use mathlib.Core.Bool.{false}
 use mathlib.Core.List.{[], _∷_}
 use mathlib.Core.Logic.{_≢_, _⊎_}
 use Prim.Native.Nat.{ℕ, _+_, _<_, _≤_}
+use Rattle.floats.specs.Value.{far}
 use Rattle.grid.specs.Node.{Node}
 use Rattle.grid.specs.Whole.{clear}
-use Rattle.grid.specs.Combine.{Operation, union, intersect}
+use Rattle.grid.specs.Combine.{Operation, union, subtract, intersect}
 use Rattle.nodes.specs.State.{St, Live, Sound}
+use Rattle.nodes.specs.Wipe.{wipeM}
+use Rattle.trees.specs.Combine.{combineM}
+use Rattle.trees.specs.Turn.{turnM}
+use Rattle.trees.specs.declared.turn.Work.the-variants.{Flip}
 use Rattle.trees.specs.declared.plan.Join.{Join}
 use Rattle.trees.specs.declared.plan.Join.the-variants.{Union, Intersect}
 use Rattle.means.specs.Level.{levels, span, treeAt, At, In, Kept}
@@ -41,3 +47,9 @@ pub record Combined (n a b : ℕ) (s r : St) (g : Node (levels 2)) : Type 0 wher
   pub cleared : treeAt 2 r b ≡ clear 3 (2 ∷ 2 ∷ [])
   pub others : (t : ℕ) → t < 8 → t ≢ a → t ≢ b → treeAt 2 s t ≡ treeAt 2 r t
   pub marks : r .mark ≡ s .mark
+
+-- what is done to seats a and b: b is joined into a, after a flip of b where it is subtracted, and then cleared
+unfoldable pub combinedS : Operation → ℕ → ℕ → ℕ → St → St
+combinedS union n a b s = wipeM 3 (2 ∷ 2 ∷ []) n far false b (combineM 3 (2 ∷ 2 ∷ []) Union n a b s)
+combinedS subtract n a b s = wipeM 3 (2 ∷ 2 ∷ []) n far false b (combineM 3 (2 ∷ 2 ∷ []) Intersect n a b (turnM 3 (2 ∷ 2 ∷ []) Flip n b s))
+combinedS intersect n a b s = wipeM 3 (2 ∷ 2 ∷ []) n far false b (combineM 3 (2 ∷ 2 ∷ []) Intersect n a b s)

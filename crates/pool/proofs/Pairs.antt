@@ -1,16 +1,18 @@
--- A copy of one seat onto another: its refusals and its promise, from what the code tested and did. Assumes nothing.
+-- The calls on two seats: their refusals and promises, from what the code tested and did. Assumes nothing.
 use mathlib.Core.Path.{_≡_, refl, sym, ap, ap₂, _∙_, fun-ext}
-use mathlib.Core.Bool.{Bool, true, false, not, _||_, cond}
+use mathlib.Core.Bool.{Bool, true, false, not, _&&_, _||_, cond}
 use mathlib.Core.List.{List, [], _∷_}
 use mathlib.Core.Option.{Option, none, some}
 use Prim.Native.Nat.{ℕ, _<_, _≤_}
 use native.Mathlib.Omega.{arith}
+use lib.ListN.{getD}
 use lib.Dec.{leb, eqb}
-use borrow.Author.Tests.{le-leb, lt-leb, not-false}
+use borrow.Author.Tests.{le-leb, lt-leb, eq-eqb, ne-eqb, not-false}
 use Rattle.grid.specs.Node.{put}
-use Rattle.grid.specs.Whole.{reach, isEmpty}
+use Rattle.grid.specs.Combine.{Operation}
+use Rattle.grid.specs.Whole.{reach, isEmpty, hasHollow}
 use Rattle.grid.proofs.Places.{put-at}
-use Rattle.seats.specs.Call.{Two, Copy, done}
+use Rattle.seats.specs.Call.{Pair, Two, Copy, Combine, wholePool, asks, done}
 use Rattle.seats.specs.Refusal.{order, refusal}
 use Rattle.seats.specs.Seat.{Seat, State, reached}
 use Rattle.seats.specs.Step.{both, served}
@@ -20,52 +22,85 @@ use Rattle.seats.proofs.Refusal.{below-8, different, enough, all-pass}
 use Rattle.nodes.specs.State.{St, tree}
 use Rattle.nodes.specs.Layout.{st}
 use Rattle.nodes.specs.Change.{markS}
-use Rattle.trees.specs.Below.{reachedM}
+use Rattle.trees.specs.Below.{hollowM, reachedM}
 use Rattle.trees.specs.Copy.{copyM}
 use Rattle.means.specs.Level.{treeAt, Turned}
 use Rattle.means.specs.Mem.{Mem, cellsOf, fits, poolOf, SoundMem, seatOf, readsIn}
-use Rattle.means.proofs.Below.{reached-is}
+use Rattle.means.proofs.Below.{hollow-seat, reached-is}
 use Rattle.means.proofs.Copy.{copy-right}
 use Rattle.means.proofs.Memory.{seat-is}
 use Rattle.means.proofs.SeatTurn.{turn-sound, turn-seats}
 use Rattle.pool.specs.Lent.{lent}
 use Rattle.pool.specs.Answers.{Says, codeOf}
-use Rattle.pool.specs.Guard.{orElse, orNone, guardOf, laterOf, roomOf}
+use Rattle.pool.specs.Guard.{orElse, orNone, givenOf, guardOf, laterOf, solidOf, roomOf, filledOf}
+use Rattle.pool.proofs.Book.{st-mark}
 use Rattle.pool.proofs.Guards.{refusal-guard, served-fits, served-sound, clean-fits, clean-given, clean-sound, two-seats, or-none}
 use Rattle.pool.proofs.Promises.{Counted, counted-some, is-fit, is-cells, is-pool}
 use Rattle.pool.proofs.Turns.{Kept, kept-lens, kept-cells, kept-fits}
 
--- ---- the refusals: g is the number of what was given, and r that of the guard
-module _ (i j : ℕ) (m : Mem) {g r : ℕ} (b : g ≡ cond (leb 8 i || leb 8 j) 2 (cond (eqb i j) 3 0)) (c : r ≡ guardOf m g) where
-  guarded : refusal (readsIn m) (Two Copy i j) ≡ orElse r (laterOf (readsIn m) (Two Copy i j))
-  guarded = refusal-guard m (Two Copy i j) refl ∙ ap (λ (k : ℕ). orElse k (laterOf (readsIn m) (Two Copy i j))) (sym (c ∙ ap (guardOf m) b))
+-- ---- the refusals of a call on two seats: g is the number of what was given, and r that of the guard
+two-kind : (x : Pair) (i j : ℕ) → (asks (Two x i j) .kind ≡ wholePool) × (asks (Two x i j) .given ≡ true)
+two-kind Copy i j = (refl, refl)
+two-kind (Combine o) i j = (refl, refl)
 
-  pub copy-first : (r ≡ 0 → ⊥) → refusal (readsIn m) (Two Copy i j) ≡ orNone r
-  copy-first h = guarded ∙ or-none r (laterOf (readsIn m) (Two Copy i j)) h
+module _ (x : Pair) (i j : ℕ) (m : Mem) {g r : ℕ} (b : g ≡ cond (leb 8 i || leb 8 j) 2 (cond (eqb i j) 3 0)) (c : r ≡ guardOf m g) where
+  given : givenOf (Two x i j) ≡ g
+  given = rw (two-kind x i j .1) (sym b)
+
+  guarded : refusal (readsIn m) (Two x i j) ≡ orElse r (laterOf (readsIn m) (Two x i j))
+  guarded = refusal-guard m (Two x i j) (two-kind x i j .0) ∙ ap (λ (k : ℕ). orElse k (laterOf (readsIn m) (Two x i j))) (sym (c ∙ ap (guardOf m) (sym given)))
+
+  pub pair-first : (r ≡ 0 → ⊥) → refusal (readsIn m) (Two x i j) ≡ orNone r
+  pair-first h = guarded ∙ or-none r (laterOf (readsIn m) (Two x i j)) h
 
   module _ (z : r ≡ 0) where
-    pub copy-fits : fits m ≡ true
-    copy-fits = clean-fits m g (sym c ∙ z)
+    pub pair-fits : fits m ≡ true
+    pair-fits = clean-fits m g (sym c ∙ z)
 
-    pub copy-seats : (i < 8) × (j < 8)
-    copy-seats = two-seats i j (sym b ∙ clean-given m g (sym c ∙ z))
+    pub pair-seats : (i < 8) × (j < 8)
+    pair-seats = two-seats i j (sym b ∙ clean-given m g (sym c ∙ z))
 
-    pub copy-room : (k : ℕ) → k ≡ roomOf m i j → refusal (readsIn m) (Two Copy i j) ≡ orNone k
-    unfolding reached
-    copy-room k q =
-        guarded ∙ ap (λ (k : ℕ). orElse k (laterOf (readsIn m) (Two Copy i j))) z
-        ∙ ap₂ (λ (e : Bool) (n : ℕ). cond (not e) (some 8) (cond (not (leb n (poolOf m .count))) (some 9) none))
-        (ap (λ (x : Seat 3 (2 ∷ 2 ∷ [])). isEmpty 3 (2 ∷ 2 ∷ []) (x .grid)) (seat-is m s j (copy-seats .1)))
-        (ap (λ (x : Seat 3 (2 ∷ 2 ∷ [])). reach 3 (2 ∷ 2 ∷ []) (x .grid)) (seat-is m s i (copy-seats .0)) ∙ sym (reached-is (s .1) 2 i (copy-seats .0, refl)))
-        ∙ go (isEmpty 3 (2 ∷ 2 ∷ []) (tree 3 (2 ∷ 2 ∷ []) (poolOf m) j)) (leb (reachedM 3 (2 ∷ 2 ∷ []) (cellsOf m) (poolOf m) i) (poolOf m .count)) ∙ ap orNone (sym q)
-      where
-        s : SoundMem m
-        s = clean-sound m g (sym c ∙ z)
+    pair-sound : SoundMem m
+    pair-sound = clean-sound m g (sym c ∙ z)
 
-        go : (e f : Bool) → cond (not e) (some 8) (cond (not f) (some 9) none) ≡ orNone (cond e (cond f 0 9) 8)
-        go true true = refl
-        go true false = refl
-        go false f = refl
+    served-later : refusal (readsIn m) (Two x i j) ≡ laterOf (readsIn m) (Two x i j)
+    served-later = guarded ∙ ap (λ (k : ℕ). orElse k (laterOf (readsIn m) (Two x i j))) z
+
+-- a seat's grid is its tree
+grid-is : (m : Mem) (s : SoundMem m) (i : ℕ) → i < 8 → seatOf m i .grid ≡ tree 3 (2 ∷ 2 ∷ []) (poolOf m) i
+grid-is m s i l = ap (λ (x : Seat 3 (2 ∷ 2 ∷ [])). x .grid) (seat-is m s i l)
+
+-- where the guard found nothing
+module _ (i j : ℕ) (m : Mem) {g r : ℕ} (b : g ≡ cond (leb 8 i || leb 8 j) 2 (cond (eqb i j) 3 0)) (c : r ≡ guardOf m g) (z : r ≡ 0) where
+  pub copy-room : (k : ℕ) → k ≡ roomOf m i j → refusal (readsIn m) (Two Copy i j) ≡ orNone k
+  unfolding reached
+  copy-room k q =
+      let s : SoundMem m = pair-sound Copy i j m b c z in
+      let l : (i < 8) × (j < 8) = pair-seats Copy i j m b c z in
+      served-later Copy i j m b c z
+      ∙ ap₂ (λ (e : Bool) (n : ℕ). cond (not e) (some 8) (cond (not (leb n (poolOf m .count))) (some 9) none))
+      (ap (isEmpty 3 (2 ∷ 2 ∷ [])) (grid-is m s j (l .1))) (ap (reach 3 (2 ∷ 2 ∷ [])) (grid-is m s i (l .0)) ∙ sym (reached-is (s .1) 2 i (l .0, refl)))
+      ∙ go (isEmpty 3 (2 ∷ 2 ∷ []) (tree 3 (2 ∷ 2 ∷ []) (poolOf m) j)) (leb (reachedM 3 (2 ∷ 2 ∷ []) (cellsOf m) (poolOf m) i) (poolOf m .count)) ∙ ap orNone (sym q)
+    where
+      go : (e f : Bool) → cond (not e) (some 8) (cond (not f) (some 9) none) ≡ orNone (cond e (cond f 0 9) 8)
+      go true true = refl
+      go true false = refl
+      go false f = refl
+
+  pub combine-filled : (o : Operation) (k : ℕ) → k ≡ filledOf m i j → refusal (readsIn m) (Two (Combine o) i j) ≡ orNone k
+  combine-filled o k q =
+      let s : SoundMem m = pair-sound (Combine o) i j m b c z in
+      let l : (i < 8) × (j < 8) = pair-seats (Combine o) i j m b c z in
+      served-later (Combine o) i j m b c z
+      ∙ ap₂ (λ (e f : Bool). cond (not (eqb (poolOf m .mark i) 1) || not (eqb (poolOf m .mark j) 1)) (some 6) (cond (e || f) (some 7) none))
+      (ap (hasHollow 3 (2 ∷ 2 ∷ [])) (grid-is m s i (l .0)) ∙ sym (hollow-seat (s .1) i (l .0))) (ap (hasHollow 3 (2 ∷ 2 ∷ [])) (grid-is m s j (l .1)) ∙ sym (hollow-seat (s .1) j (l .1)))
+      ∙ go (eqb (poolOf m .mark i) 1) (eqb (poolOf m .mark j) 1) (hollowM 3 (2 ∷ 2 ∷ []) (cellsOf m) (poolOf m) i || hollowM 3 (2 ∷ 2 ∷ []) (cellsOf m) (poolOf m) j) ∙ ap orNone (sym q)
+    where
+      go : (e f h : Bool) → cond (not e || not f) (some 6) (cond h (some 7) none) ≡ orNone (cond (e && f) (cond h 7 0) 6)
+      go true true true = refl
+      go true true false = refl
+      go true false h = refl
+      go false f h = refl
 
 -- ---- 8 and 9, as the code finds them
 module _ (m : Mem) (n : ℕ) (h : Counted n m) (fit : fits m ≡ true) (i j : ℕ) where
@@ -91,6 +126,42 @@ module _ (m : Mem) (n : ℕ) (h : Counted n m) (fit : fits m ≡ true) (i j : �
 
       pub room-0 : a ≤ k → 0 ≡ roomOf m i j
       room-0 l = sym (rw (empty ∙ f, need, free, le-leb a k l) refl)
+
+-- ---- 6 and 7, as the code finds them
+module _ (m : Mem) (fit : fits m ≡ true) (i j : ℕ) (hi : i < 8) (hj : j < 8) where
+  mark-at : (t : ℕ) → t < 8 → poolOf m .mark t ≡ getD (m .book) t 0
+  unfolding poolOf
+  mark-at t h = st-mark (cellsOf m) (m .slots) (m .masks) (m .book) t h
+
+  off : (t : ℕ) → t < 8 → (getD (m .book) t 0 ≡ 1 → ⊥) → eqb (poolOf m .mark t) 1 ≡ false
+  off t h e = ap (λ (k : ℕ). eqb k 1) (mark-at t h) ∙ ne-eqb (getD (m .book) t 0) 1 e
+
+  on : (t : ℕ) → t < 8 → getD (m .book) t 0 ≡ 1 → eqb (poolOf m .mark t) 1 ≡ true
+  on t h e = ap (λ (k : ℕ). eqb k 1) (mark-at t h) ∙ eq-eqb (getD (m .book) t 0) 1 e
+
+  pub filled-first : (getD (m .book) i 0 ≡ 1 → ⊥) → 6 ≡ filledOf m i j
+  filled-first e = sym (rw (off i hi e) refl)
+
+  module _ (p : getD (m .book) i 0 ≡ 1) where
+    pub filled-second : (getD (m .book) j 0 ≡ 1 → ⊥) → 6 ≡ filledOf m i j
+    filled-second e = sym (rw (on i hi p, off j hj e) refl)
+
+    module _ (q : getD (m .book) j 0 ≡ 1) {a : ℕ} (d : a ≡ solidOf m i) where
+      pub filled-7 : (a ≡ 0 → ⊥) → a ≡ filledOf m i j
+      filled-7 z = go (hollowM 3 (2 ∷ 2 ∷ []) (cellsOf m) (poolOf m) i) refl d ∙ sym (rw (on i hi p, on j hj q) refl)
+        where
+          go : (h : Bool) → hollowM 3 (2 ∷ 2 ∷ []) (cellsOf m) (poolOf m) i ≡ h → a ≡ cond h 7 0
+              → a ≡ cond (hollowM 3 (2 ∷ 2 ∷ []) (cellsOf m) (poolOf m) i || hollowM 3 (2 ∷ 2 ∷ []) (cellsOf m) (poolOf m) j) 7 0
+          go true e f = f ∙ sym (rw e refl)
+          go false e f = absurd (z f)
+
+      pub filled-last : a ≡ 0 → {k : ℕ} → k ≡ solidOf m j → k ≡ filledOf m i j
+      filled-last z f = f ∙ go (hollowM 3 (2 ∷ 2 ∷ []) (cellsOf m) (poolOf m) i) refl (sym z ∙ d) ∙ sym (rw (on i hi p, on j hj q) refl)
+        where
+          go : (h : Bool) → hollowM 3 (2 ∷ 2 ∷ []) (cellsOf m) (poolOf m) i ≡ h → _≡_ {A = ℕ} 0 (cond h 7 0)
+              → solidOf m j ≡ cond (hollowM 3 (2 ∷ 2 ∷ []) (cellsOf m) (poolOf m) i || hollowM 3 (2 ∷ 2 ∷ []) (cellsOf m) (poolOf m) j) 7 0
+          go true e f = absurd (omega arith)
+          go false e f = sym (rw e refl)
 
 -- ---- the copy done: m' is the memory after it
 

@@ -1,5 +1,5 @@
 -- The refusals of a call on the whole pool by number, 0 where there is none: those that its arguments give, the tests before and after them, and the rest. Assumes nothing.
-use mathlib.Core.Bool.{Bool, not, cond}
+use mathlib.Core.Bool.{cond, _&&_, _||_}
 use mathlib.Core.List.{List, [], _∷_}
 use mathlib.Core.Option.{Option, none, some}
 use Prim.Native.Nat.{ℕ, zero, suc}
@@ -39,3 +39,9 @@ solidOf m i = cond (hollowM 3 (2 ∷ 2 ∷ []) (cellsOf m) (poolOf m) i) 7 0
 abbrev pub roomOf : Mem → ℕ → ℕ → ℕ
 roomOf m i j =
     cond (isEmpty 3 (2 ∷ 2 ∷ []) (tree 3 (2 ∷ 2 ∷ []) (poolOf m) j)) (cond (leb (reachedM 3 (2 ∷ 2 ∷ []) (cellsOf m) (poolOf m) i) (poolOf m .count)) 0 9) 8
+
+-- 6 and 7 of a combination of seats i and j
+abbrev pub filledOf : Mem → ℕ → ℕ → ℕ
+filledOf m i j =
+    cond (eqb (poolOf m .mark i) 1 && eqb (poolOf m .mark j) 1)
+    (cond (hollowM 3 (2 ∷ 2 ∷ []) (cellsOf m) (poolOf m) i || hollowM 3 (2 ∷ 2 ∷ []) (cellsOf m) (poolOf m) j) 7 0) 6

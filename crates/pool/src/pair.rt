@@ -1,6 +1,7 @@
 // The calls on two seats. Each tests what it was given and then the whole pool before it changes anything.
 use super::guard;
 use super::lengths;
+use super::seat;
 use super::whole;
 use nodes::cells;
 use trees::below;
@@ -8,14 +9,15 @@ ghost use mathlib.Core.Path.{_≡_};
 ghost use mathlib.Core.Bool.{true};
 ghost use mathlib.Core.List.{[], _∷_};
 ghost use Prim.Native.Nat.{_<_};
-ghost use Rattle.seats.specs.Call.{Two, Copy};
+ghost use Rattle.grid.specs.Combine.{Operation};
+ghost use Rattle.seats.specs.Call.{Two, Copy, Combine};
 ghost use Rattle.seats.specs.Refusal.{refusal};
 ghost use Rattle.nodes.specs.Change.{markS};
 ghost use Rattle.nodes.specs.Layout.{st, Sized};
 ghost use Rattle.trees.specs.Copy.{copyM};
 ghost use Rattle.means.specs.Mem.{fits, readsIn};
 ghost use Rattle.pool.specs.Answers.{memOf, Says, codeOf};
-ghost use Rattle.pool.specs.Guard.{orNone, roomOf};
+ghost use Rattle.pool.specs.Guard.{orNone, roomOf, filledOf};
 
 // Refusal 8 or 9 of a copy, or 0: the target has to be empty, and the pool to have as many free cells as the source reaches.
 fn room(slots: &[u32], masks: &[u64], book: &[u32], from: u32, to: u32) -> u32
@@ -69,4 +71,33 @@ pub fn copy(slots: &mut [u32], masks: &mut [u64], book: &mut [u32], from: u32, t
     let n = lengths::cells(slots.len(), masks.len(), book.len());
     copy_unmark(slots, masks, book, n, from as usize, to as usize);
     0
+}
+
+// Refusal 6 or 7 of a combination, or 0: both seats have to be filled, which only a mark of 1 says, and no branch of them may be empty.
+fn filled(slots: &[u32], masks: &[u64], book: &[u32], a: u32, b: u32) -> u32
+    requires { ⌜ (fits (memOf (now slots) (now masks) (now book)) ≡ true) × (a < 8) × (b < 8) ⌝ }
+    ensures { λ r. ⌜ r ≡ filledOf (memOf (now (slots .entry)) (now (masks .entry)) (now (book .entry))) a b ⌝ }
+{
+    if book[a as usize] != 1 {
+        return 6;
+    }
+    if book[b as usize] != 1 {
+        return 6;
+    }
+    let no = seat::solid(slots, masks, book, a);
+    if no != 0 {
+        return no;
+    }
+    seat::solid(slots, masks, book, b)
+}
+
+// The number of a combination's refusal, or 0: it is the same for the three operations.
+fn combine_barred(slots: &[u32], masks: &[u64], book: &[u32], a: u32, b: u32) -> u32
+    ensures { λ r. ⌜ ((o : Operation) → refusal (readsIn (memOf (now (slots .entry)) (now (masks .entry)) (now (book .entry)))) (Two (Combine o) a b) ≡ orNone r) ⌝ }
+{
+    let no = guard::guard(slots, masks, book, guard::two_given(a, b));
+    if no != 0 {
+        return no;
+    }
+    filled(slots, masks, book, a, b)
 }

@@ -50,7 +50,7 @@ fn given(task: Task) -> bool
 }
 
 // Refusal 7, or 0: some branch of the seat has both masks empty.
-fn solid(slots: &[u32], masks: &[u64], book: &[u32], seat: u32) -> u32
+pub fn solid(slots: &[u32], masks: &[u64], book: &[u32], seat: u32) -> u32
     requires { ⌜ (fits (memOf (now slots) (now masks) (now book)) ≡ true) × (seat < 8) ⌝ }
     ensures { λ r. ⌜ r ≡ solidOf (memOf (now (slots .entry)) (now (masks .entry)) (now (book .entry))) seat ⌝ }
 {

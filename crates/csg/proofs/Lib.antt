@@ -1,1 +1,0 @@
--- The laws that belong to no one function.
