@@ -24,6 +24,7 @@ pub mod Put
 pub mod Release
 pub mod Remove
 pub mod Rows
+pub mod SeatPair
 pub mod SeatTurn
 pub mod Signs
 pub mod SlotSigns

@@ -40,6 +40,15 @@ mark-tree : (t mk : ℕ) (s : St) (x : ℕ) → tree 3 (2 ∷ 2 ∷ []) (markS t
 unfolding markS tree
 mark-tree t mk s x = refl
 
+-- the seats of a memory whose pool is r with the mark of seat i set
+pub marked-seat : (m : Mem) (i mk : ℕ) (r : St) → poolOf m ≡ markS i mk r → (t : ℕ) → t < 8
+    → seatOf m t ≡ record { grid = treeAt 2 r t; filled = eqb (at1 (r .mark) i mk t) 1 }
+unfolding seatOf markS
+marked-seat m i mk r is t h =
+    rw (lt-ltb t 8 h)
+    (ap₂ {C = Seat 3 (2 ∷ 2 ∷ [])} (λ (g : Node (levels 2)) (f : ℕ). record { grid = g; filled = eqb f 1 })
+    (ap (λ (u : St). tree 3 (2 ∷ 2 ∷ []) u t) is ∙ mark-tree i mk r t) (ap (λ (u : St). u .mark t) is))
+
 -- from m to m', the tree of seat i has become g and its mark is mk
 module _ (m m' : Mem) (s : SoundMem m) (i : ℕ) (l : i < 8) (mk : ℕ) (two : mk < 2) {r : St} {g : Node (levels 2)} (a : Turned (cellsOf m) 2 i (poolOf m) r g)
     (cells : cellsOf m' ≡ cellsOf m) (fit : fits m' ≡ true) (is : poolOf m' ≡ markS i mk r) where
@@ -49,22 +58,16 @@ module _ (m m' : Mem) (s : SoundMem m) (i : ℕ) (l : i < 8) (mk : ℕ) (two : m
   pub turn-sound : SoundMem m'
   turn-sound = (fit, subst (λ (n : ℕ). Sound n (poolOf m')) (sym cells) (subst (Sound (cellsOf m)) (sym is) (mark-sound i mk two (a .sound))))
 
-  seat-of : (t : ℕ) → t < 8 → seatOf m' t ≡ record { grid = treeAt 2 r t; filled = eqb (at1 (r .mark) i mk t) 1 }
-  unfolding seatOf markS
-  seat-of t h =
-      rw (lt-ltb t 8 h)
-      (ap₂ {C = Seat₂} (λ (g : Node (levels 2)) (f : ℕ). record { grid = g; filled = eqb f 1 }) (ap (λ (u : St). tree 3 (2 ∷ 2 ∷ []) u t) is ∙ mark-tree i mk r t) (ap (λ (u : St). u .mark t) is))
-
   pub turn-seats : seatOf m' ≡ put (seatOf m) i (record { grid = g; filled = eqb mk 1 })
   unfolding seatOf
   turn-seats = fun-ext (λ t. put-at (λ x. seatOf m' t ≡ x) (seatOf m) i (record { grid = g; filled = eqb mk 1 }) t (here t) (there t))
     where
       here : (t : ℕ) → t ≡ i → seatOf m' t ≡ record { grid = g; filled = eqb mk 1 }
-      here t e = ap (seatOf m') e ∙ seat-of i l ∙ ap₂ {C = Seat₂} (λ (h : Node (levels 2)) (f : ℕ). record { grid = h; filled = eqb f 1 }) (a .grid) (at1-here (r .mark) i mk)
+      here t e = ap (seatOf m') e ∙ marked-seat m' i mk r is i l ∙ ap₂ {C = Seat₂} (λ (h : Node (levels 2)) (f : ℕ). record { grid = h; filled = eqb f 1 }) (a .grid) (at1-here (r .mark) i mk)
 
       there : (t : ℕ) → (t ≡ i → ⊥) → seatOf m' t ≡ seatOf m t
       there t ne = on-case (ltb t 8)
-          (λ e. seat-of t (ltb-true t 8 e)
+          (λ e. marked-seat m' i mk r is t (ltb-true t 8 e)
           ∙ ap₂ {C = Seat₂} (λ (h : Node (levels 2)) (f : ℕ). record { grid = h; filled = eqb f 1 }) (sym (others (s .1) i t l (ltb-true t 8 e) ne a)) (at1-else (r .mark) i mk t ne ∙ ap (λ (f : ℕ → ℕ). f t) (a .marks))
           ∙ sym (rw e refl))
           (λ e. rw e refl)

@@ -1,36 +1,51 @@
 -- The calls on two seats: their refusals and promises, from what the code tested and did. Assumes nothing.
-use mathlib.Core.Path.{_≡_, refl, sym, ap, ap₂, _∙_, fun-ext}
-use mathlib.Core.Bool.{Bool, true, false, not, _&&_, _||_, cond}
+use mathlib.Core.Path.{_≡_, refl, sym, ap, ap₂, _∙_, subst, fun-ext}
+use mathlib.Core.Bool.{Bool, true, false, not, _&&_, _||_, cond, false≢true}
 use mathlib.Core.List.{List, [], _∷_}
+use mathlib.Core.Logic.{_≢_}
 use mathlib.Core.Option.{Option, none, some}
 use Prim.Native.Nat.{ℕ, _<_, _≤_}
 use native.Mathlib.Omega.{arith}
 use lib.ListN.{getD}
 use lib.Dec.{leb, eqb}
 use borrow.Author.Tests.{le-leb, lt-leb, eq-eqb, ne-eqb, not-false}
-use Rattle.grid.specs.Node.{put}
-use Rattle.grid.specs.Combine.{Operation}
+use Rattle.grid.specs.Node.{Node, put}
+use Rattle.floats.specs.Value.{far, farWith}
+use Rattle.grid.specs.Combine.{Operation, combineS}
 use Rattle.grid.specs.Whole.{reach, isEmpty, hasHollow}
 use Rattle.grid.proofs.Places.{put-at}
 use Rattle.seats.specs.Call.{Pair, Two, Copy, Combine, wholePool, asks, done}
 use Rattle.seats.specs.Refusal.{order, refusal}
-use Rattle.seats.specs.Seat.{Seat, State, reached}
+use Rattle.seats.specs.Seat.{Seat, State, fresh, reached}
 use Rattle.seats.specs.Step.{both, served}
 use Rattle.seats.proofs.Names.{among-head, among-rest}
 use Rattle.seats.proofs.Promise.{served-step}
 use Rattle.seats.proofs.Refusal.{below-8, different, enough, all-pass}
-use Rattle.nodes.specs.State.{St, tree}
+use Rattle.nodes.specs.State.{St, Sound, tree}
 use Rattle.nodes.specs.Layout.{st}
 use Rattle.nodes.specs.Change.{markS}
+use Rattle.nodes.specs.Wipe.{wipeM}
 use Rattle.trees.specs.Below.{hollowM, reachedM}
+use Rattle.trees.specs.Combine.{combineM}
 use Rattle.trees.specs.Copy.{copyM}
+use Rattle.trees.specs.Turn.{turnM}
+use Rattle.trees.specs.declared.plan.Join.the-variants.{Union, Intersect}
+use Rattle.trees.specs.declared.turn.Work.the-variants.{Flip}
+use Rattle.means.specs.Joined.{combinedS}
 use Rattle.means.specs.Level.{treeAt, Turned}
 use Rattle.means.specs.Mem.{Mem, cellsOf, fits, poolOf, SoundMem, seatOf, readsIn}
 use Rattle.means.proofs.Below.{hollow-seat, reached-is}
 use Rattle.means.proofs.Copy.{copy-right}
 use Rattle.means.proofs.Memory.{seat-is}
+use Rattle.means.proofs.Turn.{turn-right}
+use Rattle.means.proofs.Combine.{combined-by}
+use Rattle.means.proofs.SeatPair.{pair-sound-after, pair-seats-after}
 use Rattle.means.proofs.SeatTurn.{turn-sound, turn-seats}
+use Rattle.csg.specs.Joinable.{Joinable}
 use Rattle.pool.specs.Lent.{lent}
+use Rattle.pool.specs.Pair.{operationOf}
+use Rattle.pool.specs.declared.pair.Operation as pair
+use Rattle.pool.specs.declared.pair.Operation.the-variants as pairs
 use Rattle.pool.specs.Answers.{Says, codeOf}
 use Rattle.pool.specs.Guard.{orElse, orNone, givenOf, guardOf, laterOf, solidOf, roomOf, filledOf}
 use Rattle.pool.proofs.Book.{st-mark}
@@ -211,3 +226,86 @@ module _ (m : Mem) (i j : ℕ) (serve : refusal (readsIn m) (Two Copy i j) ≡ n
           kept-lens k,
         ),
       )
+
+-- ---- the combination done: m' is the memory after it
+module _ (o : Operation) (m : Mem) (i j : ℕ) (serve : refusal (readsIn m) (Two (Combine o) i j) ≡ none) where
+  pub combine-low : (i < 8) × (j < 8)
+  combine-low = (below-8 (readsIn m) (Two (Combine o) i j) serve i (among-head i (j ∷ [])), below-8 (readsIn m) (Two (Combine o) i j) serve j (among-rest j (i ∷ j ∷ []) (among-head j [])))
+
+  combine-sound : SoundMem m
+  combine-sound = served-sound m (Two (Combine o) i j) serve refl
+
+  combine-differ : i ≢ j
+  combine-differ e = different (readsIn m) (Combine o) i j serve (sym e)
+
+  -- the two may be joined
+  pub combine-may : (n : ℕ) → Counted n m → Joinable n 2 (st n (m .slots) (m .masks) (m .book)) i j
+  combine-may n h =
+      let z : n ≡ 0 → ⊥ = counted-some m n h (combine-sound .0) in
+      record {
+        sound = subst (λ (c : ℕ). Sound c (st n (m .slots) (m .masks) (m .book))) (sym (is-cells m n h z)) (subst (Sound (cellsOf m)) (sym (is-pool m n h z)) (combine-sound .1));
+        at-x = (combine-low .0, refl);
+        at-y = (combine-low .1, refl);
+        differ = combine-differ;
+      }
+
+  -- the first is filled
+  full : eqb (poolOf m .mark i) 1 ≡ true
+  full = not-false (eqb (poolOf m .mark i) 1) (or-both (not (eqb (poolOf m .mark i) 1)) (not (eqb (poolOf m .mark j) 1)) (all-pass order (readsIn m) (Two (Combine o) i j) serve .1 .1 .1 .1 .1 .0) .0)
+    where
+      or-both : (a b : Bool) → (a || b) ≡ false → (a ≡ false) × (b ≡ false)
+      or-both true b e = absurd (false≢true (sym e))
+      or-both false b e = (refl, e)
+
+  pub combine-says : (n : ℕ) (h : Counted n m) (m' : Mem) (k : Kept m m')
+      → st n (m' .slots) (m' .masks) (m' .book) ≡ markS j 0 (combinedS o n i j (st n (m .slots) (m .masks) (m .book))) → Says codeOf (Two (Combine o) i j) m 0 m'
+  unfolding served both
+  combine-says n h m' k is =
+      let s : SoundMem m = combine-sound in
+      let z : n ≡ 0 → ⊥ = counted-some m n h (s .0) in
+      let after : st n (m' .slots) (m' .masks) (m' .book) ≡ poolOf m' = is-pool m' n (λ y a b d. h y (a ∙ k .slots) (b ∙ k .masks) (d ∙ k .book)) z in
+      let is' : poolOf m' ≡ markS j 0 (combinedS o (cellsOf m) i j (poolOf m)) =
+      sym after ∙ is ∙ ap₂ (λ (c : ℕ) (p : St). markS j 0 (combinedS o c i j p)) (is-cells m n h z) (is-pool m n h z) in
+      let fit : fits m' ≡ true = kept-fits k ∙ s .0 in
+      let c = combined-by (s .1) i j (combine-low .0) (combine-low .1) combine-differ o in (
+        done,
+        refl,
+        rw serve (
+          refl,
+          pair-sound-after m m' s i j (combine-low .0) (combine-low .1) combine-differ full c (kept-cells k) fit is',
+          ap₂ {C = State 3 (2 ∷ 2 ∷ [])} (λ (f : ℕ → Seat 3 (2 ∷ 2 ∷ [])) (n : ℕ). record { seat = f; all = n })
+              (pair-seats-after m m' s i j (combine-low .0) (combine-low .1) combine-differ full c (kept-cells k) fit is'
+              ∙ ap (λ (x : Seat 3 (2 ∷ 2 ∷ [])). put (put (seatOf m) i x) j (fresh 3 (2 ∷ 2 ∷ [])))
+              (ap₂ {C = Seat 3 (2 ∷ 2 ∷ [])} (λ (a b : Node (3 ∷ 2 ∷ 2 ∷ [])). record { grid = λ k. combineS o (2 ∷ 2 ∷ []) (a k) (b k); filled = true })
+              (sym (grid-is m s i (combine-low .0))) (sym (grid-is m s j (combine-low .1)))))
+              (kept-cells k)
+              ∙ sym (served-step 3 (2 ∷ 2 ∷ []) lent (Two (Combine o) i j) m s serve),
+          kept-lens k,
+        ),
+      )
+
+-- ---- as the code does it
+pub clear-by : (n b : ℕ) (s : St) {w : ℕ} {r r' : St} → r ≡ s → w ≡ farWith false → r' ≡ wipeM 3 (2 ∷ 2 ∷ []) n w false b r → r' ≡ wipeM 3 (2 ∷ 2 ∷ []) n far false b s
+unfolding farWith
+clear-by n b s e f d = d ∙ ap₂ (λ (w : ℕ) (r : St). wipeM 3 (2 ∷ 2 ∷ []) n w false b r) f e
+
+module _ (n a b : ℕ) (s : St) where
+  -- after a flip of the second they may still be joined
+  pub flipped-may : Joinable n 2 s a b → {r : St} → r ≡ turnM 3 (2 ∷ 2 ∷ []) Flip n b s → Joinable n 2 r a b
+  flipped-may j e =
+      subst (λ (r : St). Joinable n 2 r a b) (sym e) (record { sound = turn-right Flip 2 b (j .sound) (j .at-y) .sound; at-x = j .at-x; at-y = j .at-y; differ = j .differ })
+
+  module _ {o : pair.Operation} {r : St} where
+    pub combined-union : o ≡ pairs.Union → r ≡ wipeM 3 (2 ∷ 2 ∷ []) n far false b (combineM 3 (2 ∷ 2 ∷ []) Union n a b s) → r ≡ combinedS (operationOf o) n a b s
+    unfolding combinedS
+    combined-union e d = d ∙ ap (λ (o : pair.Operation). combinedS (operationOf o) n a b s) (sym e)
+
+    pub combined-subtract : o ≡ pairs.Subtract → {t : St} → t ≡ turnM 3 (2 ∷ 2 ∷ []) Flip n b s → r ≡ wipeM 3 (2 ∷ 2 ∷ []) n far false b (combineM 3 (2 ∷ 2 ∷ []) Intersect n a b t)
+        → r ≡ combinedS (operationOf o) n a b s
+    unfolding combinedS
+    combined-subtract e f d =
+        d ∙ ap (λ (t : St). wipeM 3 (2 ∷ 2 ∷ []) n far false b (combineM 3 (2 ∷ 2 ∷ []) Intersect n a b t)) f ∙ ap (λ (o : pair.Operation). combinedS (operationOf o) n a b s) (sym e)
+
+    pub combined-intersect : o ≡ pairs.Intersect → r ≡ wipeM 3 (2 ∷ 2 ∷ []) n far false b (combineM 3 (2 ∷ 2 ∷ []) Intersect n a b s) → r ≡ combinedS (operationOf o) n a b s
+    unfolding combinedS
+    combined-intersect e d = d ∙ ap (λ (o : pair.Operation). combinedS (operationOf o) n a b s) (sym e)

@@ -5,3 +5,4 @@ pub mod Lent
 pub mod Answers
 pub mod Guard
 pub mod Task
+pub mod Pair

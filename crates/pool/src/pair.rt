@@ -4,17 +4,27 @@ use super::lengths;
 use super::seat;
 use super::whole;
 use nodes::cells;
+use nodes::wipe;
 use trees::below;
+use trees::plan::Join;
+use trees::turn;
+use trees::turn::Work;
 ghost use mathlib.Core.Path.{_≡_};
-ghost use mathlib.Core.Bool.{true};
+ghost use mathlib.Core.Bool.{true, false};
 ghost use mathlib.Core.List.{[], _∷_};
 ghost use Prim.Native.Nat.{_<_};
-ghost use Rattle.grid.specs.Combine.{Operation};
+ghost use Rattle.grid.specs.Combine as grid;
 ghost use Rattle.seats.specs.Call.{Two, Copy, Combine};
 ghost use Rattle.seats.specs.Refusal.{refusal};
 ghost use Rattle.nodes.specs.Change.{markS};
 ghost use Rattle.nodes.specs.Layout.{st, Sized};
+ghost use Rattle.floats.specs.Value.{far};
+ghost use Rattle.nodes.specs.Wipe.{wipeM};
 ghost use Rattle.trees.specs.Copy.{copyM};
+ghost use Rattle.trees.specs.Combine.{combineM};
+ghost use Rattle.means.specs.Joined.{combinedS};
+ghost use Rattle.csg.specs.Joinable.{Joinable};
+ghost use Rattle.pool.specs.Pair.{operationOf};
 ghost use Rattle.means.specs.Mem.{fits, readsIn};
 ghost use Rattle.pool.specs.Answers.{memOf, Says, codeOf};
 ghost use Rattle.pool.specs.Guard.{orNone, roomOf, filledOf};
@@ -93,11 +103,102 @@ fn filled(slots: &[u32], masks: &[u64], book: &[u32], a: u32, b: u32) -> u32
 
 // The number of a combination's refusal, or 0: it is the same for the three operations.
 fn combine_barred(slots: &[u32], masks: &[u64], book: &[u32], a: u32, b: u32) -> u32
-    ensures { λ r. ⌜ ((o : Operation) → refusal (readsIn (memOf (now (slots .entry)) (now (masks .entry)) (now (book .entry)))) (Two (Combine o) a b) ≡ orNone r) ⌝ }
+    ensures { λ r. ⌜ ((o : grid.Operation) → refusal (readsIn (memOf (now (slots .entry)) (now (masks .entry)) (now (book .entry)))) (Two (Combine o) a b) ≡ orNone r) ⌝ }
 {
     let no = guard::guard(slots, masks, book, guard::two_given(a, b));
     if no != 0 {
         return no;
     }
     filled(slots, masks, book, a, b)
+}
+
+// How two seats are combined.
+pub enum Operation {
+    Union,
+    Subtract,
+    Intersect,
+}
+
+// Seat b is joined into seat a, and then cleared: the cells of it that a did not take are free.
+fn join_and_clear(
+    slots: &mut [u32],
+    masks: &mut [u64],
+    book: &mut [u32],
+    n: usize,
+    a: usize,
+    b: usize,
+    join: Join,
+)
+    requires { ⌜ (Sized n (now slots) (now masks) (now book)) × (Joinable n 2 (st n (now slots) (now masks) (now book)) a b) ⌝ }
+    ensures { λ _. ⌜ st n (now (slots .exit)) (now (masks .exit)) (now (book .exit))
+        ≡ wipeM 3 (2 ∷ 2 ∷ []) n far false b (combineM 3 (2 ∷ 2 ∷ []) join n a b (st n (now (slots .entry)) (now (masks .entry)) (now (book .entry)))) ⌝ }
+{
+    csg::combine::combine(slots, masks, book, n, 2, a, b, join);
+    wipe::wipe(slots, masks, book, n, 2, b, floats::far_word(false), false);
+}
+
+// The operation on two seats. To subtract b is to intersect with b flipped.
+fn combined(
+    slots: &mut [u32],
+    masks: &mut [u64],
+    book: &mut [u32],
+    n: usize,
+    a: usize,
+    b: usize,
+    operation: Operation,
+)
+    requires { ⌜ (Sized n (now slots) (now masks) (now book)) × (Joinable n 2 (st n (now slots) (now masks) (now book)) a b) ⌝ }
+    ensures { λ _. ⌜ st n (now (slots .exit)) (now (masks .exit)) (now (book .exit)) ≡ combinedS (operationOf operation) n a b (st n (now (slots .entry)) (now (masks .entry)) (now (book .entry))) ⌝ }
+{
+    match operation {
+        Operation::Union => {
+            join_and_clear(slots, masks, book, n, a, b, Join::Union);
+            return;
+        }
+        Operation::Subtract => {
+            turn::turn(slots, masks, book, n, 2, b, Work::Flip);
+            join_and_clear(slots, masks, book, n, a, b, Join::Intersect);
+            return;
+        }
+        Operation::Intersect => {
+            join_and_clear(slots, masks, book, n, a, b, Join::Intersect);
+            return;
+        }
+    }
+}
+
+fn combine_unmark(
+    slots: &mut [u32],
+    masks: &mut [u64],
+    book: &mut [u32],
+    n: usize,
+    a: usize,
+    b: usize,
+    operation: Operation,
+)
+    requires { ⌜ (Sized n (now slots) (now masks) (now book)) × (Joinable n 2 (st n (now slots) (now masks) (now book)) a b) ⌝ }
+    ensures { λ _. ⌜ st n (now (slots .exit)) (now (masks .exit)) (now (book .exit)) ≡ markS b 0 (combinedS (operationOf operation) n a b (st n (now (slots .entry)) (now (masks .entry)) (now (book .entry)))) ⌝ }
+{
+    combined(slots, masks, book, n, a, b, operation);
+    cells::set_mark(book, b, 0);
+}
+
+// Seat a is combined with seat b, and stays filled; b ends as after a clear.
+pub fn combine(
+    slots: &mut [u32],
+    masks: &mut [u64],
+    book: &mut [u32],
+    a: u32,
+    b: u32,
+    operation: Operation,
+) -> u32
+    ensures { λ r. ⌜ Says codeOf (Two (Combine (operationOf operation)) a b) (memOf (now (slots .entry)) (now (masks .entry)) (now (book .entry))) r (memOf (now (slots .exit)) (now (masks .exit)) (now (book .exit))) ⌝ }
+{
+    let no = combine_barred(slots, masks, book, a, b);
+    if no != 0 {
+        return no;
+    }
+    let n = lengths::cells(slots.len(), masks.len(), book.len());
+    combine_unmark(slots, masks, book, n, a as usize, b as usize, operation);
+    0
 }
