@@ -2,6 +2,7 @@
 // call has changed no lent word. A slice is a pointer and a count of elements in C, and a point is three signed coordinates, of which the low 7 bits count.
 use floats::Test;
 use pool::pair;
+use pool::pair::Operation;
 use pool::seat;
 use pool::seat::Task;
 use pool::voxel;
@@ -12,7 +13,8 @@ use pool::whole::Whether;
 use trees::turn::Work;
 ghost use mathlib.Core.Path.{_≡_};
 ghost use Rattle.floats.specs.declared.Test.the-variants.{Below, Above, Between};
-ghost use Rattle.seats.specs.Call.{One, Two, Lookup, Sign, Insert, Remove, Fill, Cut, Clear, Prune, Flip, FillSigns, IsEmpty, Copy, Prepare, Count};
+ghost use Rattle.grid.specs.Combine.{union, subtract, intersect};
+ghost use Rattle.seats.specs.Call.{One, Two, Lookup, Sign, Insert, Remove, Fill, Cut, Clear, Prune, Flip, FillSigns, IsEmpty, Copy, Combine, Prepare, Count};
 ghost use Rattle.pool.specs.Answers.{memOf, Says, codeOf};
 ghost use Rattle.calls.specs.Forms.{pointAt, codeOnly, answerOf, answerF, countAnswerOf, countF, truthAnswerOf, truthF};
 
@@ -308,4 +310,46 @@ pub extern "C" fn yoldrick_copy(
     ensures { λ r. ⌜ Says codeOf (Two Copy from to) (memOf (now (slots .entry)) (now (masks .entry)) (now (book .entry))) r (memOf (now (slots .exit)) (now (masks .exit)) (now (book .exit))) ⌝ }
 {
     pair::copy(slots, masks, book, from, to)
+}
+
+// Seat a becomes what is in a or in b, and b is empty.
+#[no_mangle]
+pub extern "C" fn yoldrick_union(
+    slots: &mut [u32],
+    masks: &mut [u64],
+    book: &mut [u32],
+    a: u32,
+    b: u32,
+) -> u32
+    ensures { λ r. ⌜ Says codeOf (Two (Combine union) a b) (memOf (now (slots .entry)) (now (masks .entry)) (now (book .entry))) r (memOf (now (slots .exit)) (now (masks .exit)) (now (book .exit))) ⌝ }
+{
+    pair::combine(slots, masks, book, a, b, Operation::Union)
+}
+
+// Seat a becomes what is in a and not in b, and b is empty.
+#[no_mangle]
+pub extern "C" fn yoldrick_subtract(
+    slots: &mut [u32],
+    masks: &mut [u64],
+    book: &mut [u32],
+    a: u32,
+    b: u32,
+) -> u32
+    ensures { λ r. ⌜ Says codeOf (Two (Combine subtract) a b) (memOf (now (slots .entry)) (now (masks .entry)) (now (book .entry))) r (memOf (now (slots .exit)) (now (masks .exit)) (now (book .exit))) ⌝ }
+{
+    pair::combine(slots, masks, book, a, b, Operation::Subtract)
+}
+
+// Seat a becomes what is in both a and b, and b is empty.
+#[no_mangle]
+pub extern "C" fn yoldrick_intersect(
+    slots: &mut [u32],
+    masks: &mut [u64],
+    book: &mut [u32],
+    a: u32,
+    b: u32,
+) -> u32
+    ensures { λ r. ⌜ Says codeOf (Two (Combine intersect) a b) (memOf (now (slots .entry)) (now (masks .entry)) (now (book .entry))) r (memOf (now (slots .exit)) (now (masks .exit)) (now (book .exit))) ⌝ }
+{
+    pair::combine(slots, masks, book, a, b, Operation::Intersect)
 }
