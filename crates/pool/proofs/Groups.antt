@@ -6,7 +6,7 @@ use mathlib.Core.List.{List}
 use Prim.Native.Nat.{ℕ, _+_, _-_, _*_, _/_, _%_, _^_, _<_, _≤_}
 use native.Mathlib.Omega.{arith}
 use native.Mathlib.Numerals.{add-one}
-use lib.Dec.{ltb, eqb}
+use lib.Dec.{eqb}
 use lib.ListN.{getD}
 use lib.Bits.{bitAnd, and-le-l}
 use lib.Arith.{lt-of-le-ne}
@@ -74,10 +74,13 @@ leaf-group p s x f =
 
 -- ---- where a group stands
 pub first-in : {n x : ℕ} → x < 8 + n → In n x (64 * 0)
-first-in {n} {x} h = record { node = h; slot = elim (lt-or-le x 8) [
-  | inl a ↦ omega (arith, wide-top x a)
-  | inr a ↦ omega (arith, wide-cell x a)
-] }
+first-in {n} {x} h = record {
+  node = h;
+  slot = elim (lt-or-le x 8) [
+    | inl a ↦ omega (arith, wide-top x a)
+    | inr a ↦ omega (arith, wide-cell x a)
+  ];
+}
 
 module _ {n x : ℕ} (j : ℕ) (h : In n x (64 * j)) where
   pub in-group : (i : ℕ) → i < 64 → In n x (64 * j + i)

@@ -1,6 +1,6 @@
-// The test that a pool is sound. Each mark, each place of the stack, each cell and each slot that counts is looked at once, and nothing is trusted: a use mark, a place
+// The test that a pool is sound. Each mark, each place of the stack, each cell and each slot that counts is looked at, and nothing is trusted: a use mark, a place
 // of the stack and a link are each below the pool's bounds before they are used as a place. The two ends of a link, and those of a place of the stack, have to name each
-// other, so no second pass over the cells is needed.
+// other, so no second pass over the cells is needed. Every call on the whole pool makes this test first, so it is written for speed: slots are tested by groups of 64.
 use nodes::cells;
 use nodes::geometry::Top;
 use nodes::memory::CELL;
@@ -189,7 +189,7 @@ fn finite(slots: &[u32], p: usize) -> bool
     ok
 }
 
-// Each slot of group j of node x holds a finite value. A group is 64 slots, a word of each mask: a cell is one, a top is eight.
+// Each slot of group j of node x holds a finite value. A group is 64 slots, which have one word in each mask: a cell is one group, and a top is eight.
 fn values(slots: &[u32], n: usize, x: usize, j: usize) -> bool
     requires { ⌜ (Slotted n (now slots)) × (In n x (64 * j)) ⌝ }
     ensures { λ r. ⌜ ((masks book : List ℕ) → r ≡ group (valueB (st n (now (slots .entry)) masks book) x) j) ⌝ }
@@ -207,7 +207,7 @@ fn kids(masks: &[u64], n: usize, x: usize, j: usize) -> u64
 
 // The word without its bit i.
 fn without(w: u64, i: usize) -> u64
-    ensures { λ r. ⌜ r ≡ bitAnd w (18446744073709551615 - weight i) ⌝ }
+    ensures { λ r. ⌜ r ≡ bitAnd w (0xffff_ffff_ffff_ffff - weight i) ⌝ }
 {
     w & !bitset::value_mask(i)
 }
