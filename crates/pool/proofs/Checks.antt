@@ -8,7 +8,6 @@ use lib.Dec.{ltb, leb, eqb}
 use lib.ListN.{getD}
 use borrow.Author.Tests.{lt-ltb, le-ltb, le-leb, lt-leb, eq-eqb, ne-eqb, not-true, not-false}
 use borrow.Table.Steps.{cases}
-use Rattle.floats.specs.Value.{isFinite}
 use Rattle.bitset.specs.Set.{bitOf, every}
 use Rattle.bitset.proofs.Every.{and-both, every-intro, every-elim, every-cong}
 use Rattle.nodes.specs.State.{St, wide, linked}
@@ -81,16 +80,6 @@ module _ {n : ℕ} (slots masks book : List ℕ) {x k : ℕ} (i : In n x k) (c :
 
     pub link-back : u ≡ linked x k → (b : Bool) → b ≡ bitOf masks (valBit n x k) → not b ≡ linkB n (st n slots masks book) x k
     link-back q b v = rw (links, lt-ltb c n l, st-tag n slots masks book c l ∙ sym d, eq-eqb u (linked x k) q, st-val slots masks book i ∙ sym v) refl
-
-  pub value-is : isFinite c ≡ valueB (st n slots masks book) x k
-  value-is = ap isFinite (sym links)
-
-module _ (n : ℕ) (slots masks book : List ℕ) {x k : ℕ} (i : In n x k) (b : Bool) (e : b ≡ bitOf masks (kidBit x k)) where
-  pub either-link : b ≡ true → (r : Bool) → r ≡ linkB n (st n slots masks book) x k → r ≡ eitherB n (st n slots masks book) x k
-  either-link t r q = rw (st-kid slots masks book i ∙ sym e ∙ t) q
-
-  pub either-value : b ≡ false → (r : Bool) → r ≡ valueB (st n slots masks book) x k → r ≡ eitherB n (st n slots masks book) x k
-  either-value t r q = rw (st-kid slots masks book i ∙ sym e ∙ t) q
 
 -- ---- the slot that the use mark u names, and the cell c; m is the number of the node's slots
 module _ (n : ℕ) (slots masks book : List ℕ) (c u : ℕ) where

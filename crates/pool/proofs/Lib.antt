@@ -3,6 +3,7 @@ pub mod Fits
 pub mod Book
 pub mod Ready
 pub mod Checks
+pub mod Groups
 pub mod Promises
 pub mod Afford
 pub mod Turns

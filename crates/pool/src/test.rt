@@ -1,6 +1,6 @@
-// The test that a pool is sound. Each mark, each place of the stack, each cell and each slot that counts is looked at once, and nothing is trusted: a use mark, a place
+// The test that a pool is sound. Each mark, each place of the stack, each cell and each slot that counts is looked at, and nothing is trusted: a use mark, a place
 // of the stack and a link are each below the pool's bounds before they are used as a place. The two ends of a link, and those of a place of the stack, have to name each
-// other, so no second pass over the cells is needed.
+// other, so no second pass over the cells is needed. Every call on the whole pool makes this test first, so it is written for speed: slots are tested by groups of 64.
 use nodes::cells;
 use nodes::geometry::Top;
 use nodes::memory::CELL;
@@ -8,15 +8,18 @@ use nodes::memory::USED;
 use nodes::memory::USED_BY_TOPS;
 ghost use mathlib.Core.Path.{_≡_};
 ghost use mathlib.Core.List.{List};
-ghost use Prim.Native.Nat.{ℕ, _+_, _≤_, _<_};
+ghost use mathlib.Core.Bool.{_&&_};
+ghost use Prim.Native.Nat.{ℕ, _+_, _-_, _*_, _^_, _≤_, _<_};
+ghost use lib.Bits.{bitAnd};
 ghost use lib.ListN.{length, getD};
 ghost use lib.Dec.{ltb};
-ghost use Rattle.bitset.specs.Set.{every};
+ghost use Rattle.floats.specs.Value.{isFinite};
+ghost use Rattle.bitset.specs.Set.{every, weight, wordBit};
 ghost use Rattle.nodes.specs.State.{wide};
 ghost use Rattle.nodes.specs.Layout.{Sized, st, countPlace};
-ghost use Rattle.nodes.specs.Range.{Slotted, Booked, In};
+ghost use Rattle.nodes.specs.Range.{Slotted, Masked, Booked, In};
 ghost use Rattle.nodes.specs.Test.{forkB, liveB, stackedB, linkB, heldB, cellB, nodeB, soundB};
-ghost use Rattle.pool.specs.Slots.{valueB, eitherB};
+ghost use Rattle.pool.specs.Slots.{valueB, branchB, eitherB, group};
 
 // A word of a slot as a number that may be a cell's.
 fn place(w: u32) -> usize
@@ -165,23 +168,76 @@ fn link(slots: &[u32], masks: &[u64], book: &[u32], n: usize, x: usize, k: usize
     !nodes::memory::val(masks, n, x, k)
 }
 
-// Slot k of node x holds a finite value.
-fn value(slots: &[u32], n: usize, x: usize, k: usize) -> bool
-    requires { ⌜ (Slotted n (now slots)) × (In n x k) ⌝ }
-    ensures { λ r. ⌜ ((masks book : List ℕ) → r ≡ valueB (st n (now (slots .entry)) masks book) x k) ⌝ }
+// Both are true, with no branch.
+fn both(a: bool, b: bool) -> bool
+    ensures { λ r. ⌜ r ≡ a && b ⌝ }
 {
-    floats::finite_word(nodes::memory::word(slots, x, k))
+    a && b
 }
 
-// Slot k of node x, which may have branches.
-fn either(slots: &[u32], masks: &[u64], book: &[u32], n: usize, x: usize, k: usize) -> bool
-    requires { ⌜ (Sized n (now slots) (now masks) (now book)) × (In n x k) ⌝ }
-    ensures { λ r. ⌜ r ≡ eitherB n (st n (now (slots .entry)) (now (masks .entry)) (now (book .entry))) x k ⌝ }
+// The 64 words from place p on are finite values. There is no way out before the last, so that the machine may test several at once.
+fn finite(slots: &[u32], p: usize) -> bool
+    requires { ⌜ p + 64 ≤ length (now slots) ⌝ }
+    ensures { λ r. ⌜ r ≡ every (λ i. isFinite (getD (now (slots .entry)) (p + i) 0)) 64 ⌝ }
 {
-    if nodes::memory::kid(masks, x, k) {
-        return link(slots, masks, book, n, x, k);
+    let mut ok = true;
+    let mut i = 0;
+    while i < 64 {
+        ok = both(floats::finite_word(slots[p + i]), ok);
+        i += 1;
     }
-    value(slots, n, x, k)
+    ok
+}
+
+// Each slot of group j of node x holds a finite value. A group is 64 slots, which have one word in each mask: a cell is one group, and a top is eight.
+fn values(slots: &[u32], n: usize, x: usize, j: usize) -> bool
+    requires { ⌜ (Slotted n (now slots)) × (In n x (64 * j)) ⌝ }
+    ensures { λ r. ⌜ ((masks book : List ℕ) → r ≡ group (valueB (st n (now (slots .entry)) masks book) x) j) ⌝ }
+{
+    finite(slots, nodes::memory::word_of(x, 64 * j))
+}
+
+// The word of the child mask for group j of node x.
+fn kids(masks: &[u64], n: usize, x: usize, j: usize) -> u64
+    requires { ⌜ (Masked n (now masks)) × (In n x (64 * j)) ⌝ }
+    ensures { λ r. ⌜ (r < 2 ^ 64) × ((slots book : List ℕ) (i : ℕ) → i < 64 → wordBit r i ≡ st n slots (now (masks .entry)) book .kid x (64 * j + i)) ⌝ }
+{
+    masks[nodes::memory::word_of(x, 64 * j) / 64]
+}
+
+// The word without its bit i.
+fn without(w: u64, i: usize) -> u64
+    ensures { λ r. ⌜ r ≡ bitAnd w (0xffff_ffff_ffff_ffff - weight i) ⌝ }
+{
+    w & !bitset::value_mask(i)
+}
+
+// The branches of group j of node x, from the first to the last: no other slot is looked at.
+fn links(slots: &[u32], masks: &[u64], book: &[u32], n: usize, x: usize, j: usize) -> bool
+    requires { ⌜ (Sized n (now slots) (now masks) (now book)) × (In n x (64 * j)) ⌝ }
+    ensures { λ r. ⌜ r ≡ group (branchB n (st n (now (slots .entry)) (now (masks .entry)) (now (book .entry))) x) j ⌝ }
+{
+    let mut rest = kids(masks, n, x, j);
+    while rest != 0 {
+        let i = u64::leading_zeros(rest) as usize;
+        if !link(slots, masks, book, n, x, 64 * j + i) {
+            return false;
+        }
+        rest = without(rest, i);
+    }
+    true
+}
+
+// Group j of node x, which may have branches. A link that stays in the pool is a number below 65,536, which is a finite word too: so all 64 words are tested as values,
+// and the branches once more as links.
+fn eithers(slots: &[u32], masks: &[u64], book: &[u32], n: usize, x: usize, j: usize) -> bool
+    requires { ⌜ (Sized n (now slots) (now masks) (now book)) × (In n x (64 * j)) ⌝ }
+    ensures { λ r. ⌜ r ≡ group (eitherB n (st n (now (slots .entry)) (now (masks .entry)) (now (book .entry))) x) j ⌝ }
+{
+    if !values(slots, n, x, j) {
+        return false;
+    }
+    links(slots, masks, book, n, x, j)
 }
 
 // The slots of a node that may have branches.
@@ -189,29 +245,13 @@ fn branches(slots: &[u32], masks: &[u64], book: &[u32], n: usize, x: usize) -> b
     requires { ⌜ (Sized n (now slots) (now masks) (now book)) × (x < 8 + n) ⌝ }
     ensures { λ r. ⌜ r ≡ every (eitherB n (st n (now (slots .entry)) (now (masks .entry)) (now (book .entry))) x) (wide x) ⌝ }
 {
-    let m = width(x);
-    let mut k = 0;
-    while k < m {
-        if !either(slots, masks, book, n, x, k) {
+    let m = width(x) / 64;
+    let mut j = 0;
+    while j < m {
+        if !eithers(slots, masks, book, n, x, j) {
             return false;
         }
-        k += 1;
-    }
-    true
-}
-
-// The slots of a node that has values alone.
-fn values(slots: &[u32], n: usize, x: usize) -> bool
-    requires { ⌜ (Slotted n (now slots)) × (x < 8 + n) ⌝ }
-    ensures { λ r. ⌜ ((masks book : List ℕ) → r ≡ every (valueB (st n (now (slots .entry)) masks book) x) (wide x)) ⌝ }
-{
-    let m = width(x);
-    let mut k = 0;
-    while k < m {
-        if !value(slots, n, x, k) {
-            return false;
-        }
-        k += 1;
+        j += 1;
     }
     true
 }
@@ -225,7 +265,7 @@ fn node(slots: &[u32], masks: &[u64], book: &[u32], n: usize, x: usize) -> bool
         return branches(slots, masks, book, n, x);
     }
     if lives(book, n, x) {
-        return values(slots, n, x);
+        return values(slots, n, x, 0);
     }
     true
 }

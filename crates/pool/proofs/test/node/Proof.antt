@@ -1,5 +1,7 @@
 use mathlib.Core.Path.{sym, _∙_}
 use Rattle.pool.proofs.Checks.{node-fork, node-leaf, node-free}
+use Rattle.nodes.specs.Layout.{st}
+use Rattle.pool.proofs.Groups.{first-in, leaf-group}
 use borrow.Author.Needs.{needs}
 use Rattle.pool.proofs.test.node.Statement.{statement}
 use Rattle.pool.proofs.test.node.Tie as tie
@@ -20,14 +22,17 @@ lives-requires : tie.Need-lives-requires
 lives-requires c κs = search needs
 
 values-requires : tie.Need-values-requires
-values-requires c κs = search needs
+values-requires c κs =
+    let s = c .before .before .before .before .before .before .before in
+    (record { most = s .pre .0 .most; slots-fit = s .pre .0 .slots-fit }, first-in (s .pre .1))
 
 returns-2 : tie.Need-returns-2
 returns-2 c =
     let l = c .before .before in
     let f = l .before .before in
     let a = f .before .before .before .before .args in
-    node-leaf _ _ _ (sym (f .forks .ensures (a .slots .now) (a .masks .now)) ∙ l .before .if1 .left) (sym (l .lives .ensures (a .slots .now) (a .masks .now)) ∙ c .before .if2 .taken) _ (c .values .ensures (a .masks .now) (a .book .now))
+    let o = sym (f .forks .ensures (a .slots .now) (a .masks .now)) ∙ l .before .if1 .left in
+    node-leaf _ _ _ o (sym (l .lives .ensures (a .slots .now) (a .masks .now)) ∙ c .before .if2 .taken) _ (c .values .ensures (a .masks .now) (a .book .now) ∙ leaf-group _ (st (a .n) (a .slots .now) (a .masks .now) (a .book .now)) (a .x) o)
 
 returns-3 : tie.Need-returns-3
 returns-3 c =
