@@ -285,7 +285,7 @@ pub extern "C" fn yoldrick_flip(
     seat::change(slots, masks, book, seat, Task::Turn(Work::Flip))
 }
 
-// Every hidden slot of the seat has the sign of its side, and the seat is filled.
+// Every hidden slot of the seat gets a sign, and the seat is filled.
 #[no_mangle]
 pub extern "C" fn yoldrick_fill_signs(
     slots: &mut [u32],
