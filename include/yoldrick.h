@@ -11,23 +11,27 @@
    The three arrays must not overlap. No call can test this, and the promises do not cover it. A count is trusted: that many elements must be there. NULL is allowed
    with the count 0, and is then refused with 1, as every set of counts that fits no n.
 
+   NUMBERS. Values are IEEE 754 binary32, and are compared with the machine's own instructions for it: modes that take a subnormal for 0 (flush-to-zero,
+   denormals-are-zero) must be off while a call runs. With one on, an insert under a tile, a cut and a combination may take a subnormal for equal to 0.
+
    POINTS. A grid is 128 voxels a side. Coordinates are masked to their low 7 bits: -1 is 127, and 128 is 0. So every point is in the grid.
 
    REFUSALS. Each call tests in the order of these numbers; one that is refused has changed no lent word. No input traps or runs on without an end.
 
        1   the counts are not those of one n from 1 to 65535
        2   a seat number is above 7
-       3   a copy of a seat onto itself
+       3   a copy of a seat onto itself, or a combination of it with itself
        4   a given value or bound is NaN or infinite
        5   calls on one voxel: the path to it, or a free cell that is needed, is damaged; other calls but prepare: the pool is not sound
-       6   the sign is asked of a seat that is not filled with signs
-       7   a fill with signs of a seat in which a branch is empty: prune it first
+       6   the sign or a combination is asked of a seat that is not filled with signs
+       7   a fill with signs or a combination of a seat in which a branch is empty: prune it first, and for a combination fill it again
        8   a copy onto a seat that is not empty
        9   fewer free cells than needed
 
    SIGNS. A slot that is neither active nor a branch is hidden: no lookup shows its value, but it has one, and so a sign. An accepted yoldrick_fill_signs gives every hidden
-   slot its sign and fills the seat with signs; yoldrick_sign is answered then. The seat is filled until the next accepted insert, remove, fill, clear, prune or cut on it, or
-   prepare, even one that finds nothing to change. A flip leaves it filled, and a copy of it is not.
+   slot its sign and fills the seat with signs; yoldrick_sign and the combinations are answered then. The seat is filled until the next accepted insert, remove, fill, clear,
+   prune or cut on it, copy onto it, combination of another seat with it, or prepare, even one that finds nothing to change. A flip leaves it filled, and so does its
+   combination with another seat; a copy of it is not filled.
 
    COST. 'A walk' is at most three slots, whatever n is. 'The whole pool' is each cell and slot once: the test that it is sound.
 
@@ -132,14 +136,47 @@ uint32_t yoldrick_cut_between(uint32_t *slots, size_t slots_count, uint64_t *mas
    Refusals: 1, 2, 5. Cost: as of a prune. */
 uint32_t yoldrick_flip(uint32_t *slots, size_t slots_count, uint64_t *masks, size_t masks_count, uint32_t *book, size_t book_count, uint32_t seat);
 
-/* The seat is filled with signs: every hidden slot gets the largest finite value with the sign that comes to it along its row from what is active before it. Active values
-   stay. In an empty seat all signs are positive.
+/* The seat is filled with signs: every hidden slot gets the largest finite value with a sign. Active values stay. In an empty seat all signs are positive.
+   The nodes are filled one by one, a branch before the node that it is in. The sign of a hidden slot is that of the nearest slot before it in its row along z that is
+   not hidden. Where there is none it is the sign that its row starts with, which comes in the same way along y from the starts of the rows before, and at y = 0
+   along x. All begins with the sign of the node's first slot that is not hidden: of a branch, that of its slot 0. On the way a branch hands on its last sign, that of
+   its slot 63. Where slot 0 or slot 63 of a middle node is a leaf, the sign is in both cases that of the leaf's slot 0, as in the source.
    Refusals: 1, 2, 5, 7. Cost: as of a prune. */
 uint32_t yoldrick_fill_signs(uint32_t *slots, size_t slots_count, uint64_t *masks, size_t masks_count, uint32_t *book, size_t book_count, uint32_t seat);
 
 /* The empty seat `to` becomes a copy of the seat `from`, hidden values too, but is not filled with signs. Needs as many free cells as `from` holds. `from` stays as it is.
    Refusals: 1, 2, 3, 5, 8, 9. Cost: the whole pool, and the writing of a top and of every cell that it takes. */
 uint32_t yoldrick_copy(uint32_t *slots, size_t slots_count, uint64_t *masks, size_t masks_count, uint32_t *book, size_t book_count, uint32_t from, uint32_t to);
+
+/* Combinations: the seat a becomes what is in a or in b, and b ends as after yoldrick_clear. A voxel is inside if its sign is negative: afterwards it is exactly if it was
+   in a or in b. Node by node, for each slot:
+       a is no branch and inside     it stays as it is
+       b is no branch and inside     it becomes an active tile with minus the largest finite value
+       b is no branch and outside    it stays as it is
+       a is no branch and outside    it becomes the branch of b
+       both are branches             their slots are combined; a voxel is active if it was in a or in b, with the smaller of its two values (-0 is below +0)
+   A branch may be left empty: it stays until a prune. The seat a stays filled with signs, and can be combined again if no branch is empty. Needs no free cell, and those
+   of b that a does not take over are free then.
+   Refusals: 1, 2, 3, 5, 6, 7. Cost: the whole pool, and a walk over the tops and cells of both seats. */
+uint32_t yoldrick_union(uint32_t *slots, size_t slots_count, uint64_t *masks, size_t masks_count, uint32_t *book, size_t book_count, uint32_t a, uint32_t b);
+
+/* The seat a becomes what is in a and not in b; all else is as with a union. For each slot:
+       a is no branch and outside    it stays as it is
+       b is no branch and inside     it becomes hidden, outside, with the largest finite value
+       b is no branch and outside    it stays as it is
+       a is no branch and inside     it becomes the branch of b, flipped
+       both are branches             their slots are combined; a voxel is active if it was in a or in b, with the larger of a's value and minus b's
+   Refusals: 1, 2, 3, 5, 6, 7. Cost: as of a union. */
+uint32_t yoldrick_subtract(uint32_t *slots, size_t slots_count, uint64_t *masks, size_t masks_count, uint32_t *book, size_t book_count, uint32_t a, uint32_t b);
+
+/* The seat a becomes what is in both a and b; all else is as with a union. For each slot:
+       a is no branch and outside    it stays as it is
+       b is no branch and outside    it becomes hidden, outside, with the largest finite value
+       b is no branch and inside     it stays as it is
+       a is no branch and inside     it becomes the branch of b
+       both are branches             their slots are combined; a voxel is active if it was in a or in b, with the larger of its two values
+   Refusals: 1, 2, 3, 5, 6, 7. Cost: as of a union. */
+uint32_t yoldrick_intersect(uint32_t *slots, size_t slots_count, uint64_t *masks, size_t masks_count, uint32_t *book, size_t book_count, uint32_t a, uint32_t b);
 
 #ifdef __cplusplus
 }
