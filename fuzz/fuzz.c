@@ -20,7 +20,7 @@
 
 #include "yoldrick.h"
 
-enum { PREPARE, FREE_CELLS, IS_EMPTY, LOOKUP, SIGN, INSERT, REMOVE, FILL, CLEAR, PRUNE, CUT_BELOW, CUT_ABOVE, CUT_BETWEEN, FLIP, FILL_SIGNS, COPY, KINDS };
+enum { PREPARE, FREE_CELLS, IS_EMPTY, LOOKUP, SIGN, INSERT, REMOVE, FILL, CLEAR, PRUNE, CUT_BELOW, CUT_ABOVE, CUT_BETWEEN, FLIP, FILL_SIGNS, COPY, UNION, SUBTRACT, INTERSECT, KINDS };
 enum { SLOTS, MASKS, BOOK, PARTS };
 enum { CODES = 11, MOST = 65536, VOXELS = 256 };
 
@@ -47,6 +47,9 @@ static const struct {
     [FLIP] = {"flip", C0 | C1 | C2 | C5},
     [FILL_SIGNS] = {"fill_signs", C0 | C1 | C2 | C5 | C7},
     [COPY] = {"copy", C0 | C1 | C2 | C3 | C5 | C8 | C9},
+    [UNION] = {"union", C0 | C1 | C2 | C3 | C5 | C6 | C7},
+    [SUBTRACT] = {"subtract", C0 | C1 | C2 | C3 | C5 | C6 | C7},
+    [INTERSECT] = {"intersect", C0 | C1 | C2 | C3 | C5 | C6 | C7},
 };
 
 /* A lent array: the room between two guard pages, the part of it that is lent, and what that held after the last call. */
@@ -59,7 +62,7 @@ typedef struct {
     unsigned char *copy;
 } part;
 
-/* The bits are those of a value, or of a bound; a cut between two has a second one. A copy has a second seat. */
+/* The bits are those of a value, or of a bound; a cut between two has a second one. A copy or a combination has a second seat. */
 typedef struct {
     int kind;
     uint32_t seat, to;
@@ -95,8 +98,8 @@ static uint32_t used;
 /* Of each seat in the model: whether it is filled with signs, and whether an odd number of flips came since. */
 static bool filled[8], turned[8];
 
-/* The points and the seat that an episode comes back to. */
-static uint32_t hot_point[4], hot_seat;
+/* The points and the two seats that an episode comes back to. */
+static uint32_t hot_point[4], hot_seat, hot_other;
 
 static uint64_t state;
 
@@ -455,6 +458,50 @@ static void draw_node(picture *p, size_t at, view m, source from, uint32_t level
         draw_signs(p, at, side);
 }
 
+/* ---- pictures of a combination ---- */
+
+static bool combines(int kind) { return kind >= UNION && kind <= INTERSECT; }
+
+/* The order of minimum and maximum: that of the numbers, with -0 below +0. */
+static int64_t rank_of(uint32_t w) { return w & MINUS ? -1 - (int64_t)(w ^ MINUS) : (int64_t)w; }
+
+static uint32_t joined(int kind, uint32_t v, uint32_t w) {
+    if (kind == SUBTRACT)
+        w ^= MINUS;
+    return (rank_of(v) < rank_of(w)) == (kind == UNION) ? v : w;
+}
+
+static bool inside(slot s) { return s.word & MINUS; }
+
+static void draw_combined(picture *p, size_t at, view m, uint32_t a, uint32_t b, uint32_t level, const call *c);
+
+static slot draw_combined_slot(picture *p, view m, slot s, slot t, uint32_t level, const call *c) {
+    static const call take = {.kind = LOOKUP}, turn = {.kind = FLIP};
+    if (level == 0)
+        return (slot){s.kind == ACTIVE || t.kind == ACTIVE ? ACTIVE : HIDDEN, joined(c->kind, s.word, t.word)};
+    if (s.kind != BRANCH && inside(s) == (c->kind == UNION))
+        return s;
+    if (t.kind != BRANCH && inside(t) == (c->kind != INTERSECT))
+        return c->kind == UNION ? (slot){ACTIVE, FAR | MINUS} : (slot){HIDDEN, FAR};
+    if (t.kind != BRANCH)
+        return draw_slot(p, m, s, level, &take, false);
+    if (s.kind != BRANCH)
+        return draw_slot(p, m, t, level, c->kind == SUBTRACT ? &turn : &take, false);
+    uint32_t cell = p->used++;
+    draw_combined(p, place_of(8 + cell), m, 8 + s.word, 8 + t.word, level - 1, c);
+    return (slot){BRANCH, cell};
+}
+
+static void draw_combined(picture *p, size_t at, view m, uint32_t a, uint32_t b, uint32_t level, const call *c) {
+    for (uint32_t k = 0; k < wide(level); k++) {
+        slot s = draw_combined_slot(p, m, slot_from(m, (source){.node = a}, k, level), slot_from(m, (source){.node = b}, k, level), level, c);
+        p->kind[at + k] = s.kind;
+        p->word[at + k] = s.word;
+    }
+}
+
+/* ---- pictures of any call ---- */
+
 static uint32_t target(const call *c) { return c->kind == COPY ? c->to : c->seat; }
 
 static source top_after(const call *c) {
@@ -466,16 +513,20 @@ static source top_after(const call *c) {
     }
 }
 
-static uint32_t mark_after(const call *c, uint32_t mark) { return c->kind == FILL_SIGNS ? 1 : c->kind == FLIP ? mark : 0; }
+static uint32_t mark_after(const call *c, uint32_t mark) { return c->kind == FILL_SIGNS ? 1 : c->kind == FLIP || combines(c->kind) ? mark : 0; }
 
 /* The memory as it is, or as it is after an accepted call that writes. */
 static void draw(picture *p, view m, const call *c) {
-    static const call nothing = {.kind = LOOKUP};
+    static const call nothing = {.kind = LOOKUP}, clear = {.kind = CLEAR};
     p->used = 0;
     for (uint32_t seat = 0; seat < 8; seat++) {
-        bool changes = c != NULL && (c->kind == PREPARE || seat == target(c));
-        draw_node(p, 512 * seat, m, changes ? top_after(c) : (source){.node = seat}, 2, changes ? c : &nothing, changes);
-        p->marks[seat] = changes ? mark_after(c, m.book[seat]) : m.book[seat];
+        bool changes = c != NULL && (c->kind == PREPARE || seat == target(c)), spent = c != NULL && combines(c->kind) && seat == c->to;
+        const call *here = spent ? &clear : changes ? c : &nothing;
+        if (combines(here->kind))
+            draw_combined(p, 512 * seat, m, c->seat, c->to, 2, c);
+        else
+            draw_node(p, 512 * seat, m, here == &nothing ? (source){.node = seat} : top_after(here), 2, here, changes);
+        p->marks[seat] = here == &nothing ? m.book[seat] : mark_after(here, m.book[seat]);
     }
 }
 
@@ -639,22 +690,26 @@ static result ask(const call *c) {
     case CUT_BETWEEN: return (result){yoldrick_cut_between(LENT, c->seat, float_of(c->bits), float_of(c->high)), 0};
     case FLIP: return (result){yoldrick_flip(LENT, c->seat), 0};
     case FILL_SIGNS: return (result){yoldrick_fill_signs(LENT, c->seat), 0};
-    default: return (result){yoldrick_copy(LENT, c->seat, c->to), 0};
+    case COPY: return (result){yoldrick_copy(LENT, c->seat, c->to), 0};
+    case UNION: return (result){yoldrick_union(LENT, c->seat, c->to), 0};
+    case SUBTRACT: return (result){yoldrick_subtract(LENT, c->seat, c->to), 0};
+    default: return (result){yoldrick_intersect(LENT, c->seat, c->to), 0};
     }
 }
 
 static bool writes(int kind) { return kind == PREPARE || kind >= INSERT; }
 static bool on_voxel(int kind) { return kind >= LOOKUP && kind <= REMOVE; }
 static bool has_seat(int kind) { return kind != PREPARE && kind != FREE_CELLS; }
+static bool has_pair(int kind) { return kind == COPY || combines(kind); }
 static bool has_bits(int kind) { return kind == INSERT || kind == FILL || (kind >= CUT_BELOW && kind <= CUT_BETWEEN); }
 
 /* The refusal that the counts, the seats and the values alone give, or 0. */
 static uint32_t refused_at_once(const call *c) {
     if (cells == 0)
         return 1;
-    if (has_seat(c->kind) && (c->seat > 7 || target(c) > 7))
+    if (has_seat(c->kind) && (c->seat > 7 || (has_pair(c->kind) && c->to > 7)))
         return 2;
-    if (c->kind == COPY && c->seat == c->to)
+    if (has_pair(c->kind) && c->seat == c->to)
         return 3;
     if (has_bits(c->kind) && (!finite_word(c->bits) || (c->kind == CUT_BETWEEN && !finite_word(c->high))))
         return 4;
@@ -672,6 +727,9 @@ static result by_model(const call *c) {
     case SIGN: return filled[c->seat] ? (result){0, model_sign_at(c->seat, point)} : (result){6, 0};
     case INSERT: return (result){cells - used < needed(c->seat, point) ? 9 : 0, 0};
     case COPY: return (result){!model_empty(c->to) ? 8 : cells - used < model_cells(c->seat) ? 9 : 0, 0};
+    case UNION:
+    case SUBTRACT:
+    case INTERSECT: return (result){filled[c->seat] && filled[c->to] ? 0 : 6, 0};
     default: return (result){0, 0};
     }
 }
@@ -709,6 +767,9 @@ static result foretold(const call *c) {
     case IS_EMPTY: return (result){0, empty_node(m, c->seat, 2)};
     case FILL_SIGNS: return (result){empty_branch_below(m, c->seat, 2) ? 7 : 0, 0};
     case COPY: return (result){!empty_node(m, c->to, 2) ? 8 : cells_below(m, c->seat, 2) > m.book[8] ? 9 : 0, 0};
+    case UNION:
+    case SUBTRACT:
+    case INTERSECT: return (result){m.book[c->seat] != 1 || m.book[c->to] != 1 ? 6 : empty_branch_below(m, c->seat, 2) || empty_branch_below(m, c->to, 2) ? 7 : 0, 0};
     default: return (result){0, 0};
     }
 }
@@ -772,7 +833,10 @@ static void follow(const call *c) {
     case INSERT: model_insert(c->seat, point_of(c), c->bits); break;
     case REMOVE: model_remove(c->seat, point_of(c)); break;
     case CLEAR: model_clear(c->seat); break;
-    case FILL: modelled = false; break;
+    case FILL:
+    case UNION:
+    case SUBTRACT:
+    case INTERSECT: modelled = false; break;
     case CUT_BELOW:
     case CUT_ABOVE:
     case CUT_BETWEEN: model_cut(c); break;
@@ -835,14 +899,14 @@ static int32_t coordinate(uint32_t hot) {
 
 static call any_call(void) {
     static const int seldom[] = {PREPARE, FREE_CELLS, IS_EMPTY, FILL, CLEAR};
-    static const int whole[] = {PRUNE, CUT_BELOW, CUT_ABOVE, CUT_BETWEEN, FLIP, FLIP, FILL_SIGNS, FILL_SIGNS, FILL_SIGNS, COPY, COPY, COPY};
+    static const int whole[] = {PRUNE, CUT_BELOW, CUT_ABOVE, CUT_BETWEEN, FLIP, FLIP, FILL_SIGNS, FILL_SIGNS, FILL_SIGNS, COPY, COPY, COPY, UNION, SUBTRACT, INTERSECT, UNION, SUBTRACT, INTERSECT};
     static const int often[] = {LOOKUP, LOOKUP, LOOKUP, LOOKUP, SIGN, SIGN, INSERT, INSERT, INSERT, INSERT, INSERT, REMOVE, REMOVE, REMOVE};
     uint32_t hot = hot_point[below(4)];
     bool at_hot = below(2);
     uint32_t among = below(24);
-    call c = {.seat = below(4) ? hot_seat : below(10), .bits = value_word(), .high = value_word()};
+    call c = {.seat = !below(4) ? below(10) : below(3) ? hot_seat : hot_other, .bits = value_word(), .high = value_word()};
     c.kind = among == 0 ? seldom[below(sizeof seldom / sizeof *seldom)] : among <= 3 ? whole[below(sizeof whole / sizeof *whole)] : often[below(sizeof often / sizeof *often)];
-    c.to = below(16) ? below(9) : c.seat;
+    c.to = !below(16) ? c.seat : combines(c.kind) && below(4) ? hot_seat ^ hot_other ^ c.seat : below(9);
     c.x = at_hot ? (int32_t)(hot >> 14) : coordinate(hot >> 14);
     c.y = at_hot ? (int32_t)(hot >> 7 & 127) : coordinate(hot >> 7 & 127);
     c.z = at_hot ? (int32_t)(hot & 127) : coordinate(hot & 127);
@@ -851,9 +915,23 @@ static call any_call(void) {
     return c;
 }
 
+/* Pruned or not, both seats of a combination are filled with signs. */
+static void make_ready(const call *c) {
+    bool prunes = below(2);
+    for (int i = 0; i < 2; i++) {
+        call one = {.kind = PRUNE, .seat = i == 0 ? c->seat : c->to};
+        if (prunes)
+            make(&one);
+        one.kind = FILL_SIGNS;
+        make(&one);
+    }
+}
+
 static void work(uint32_t calls) {
     while (calls-- > 0) {
         call c = any_call();
+        if (combines(c.kind) && below(2))
+            make_ready(&c);
         make(&c);
     }
 }
@@ -978,7 +1056,7 @@ static void build(void) {
         paint(seat);
     }
     for (uint32_t i = below(3 * cells + 2); i > 0; i--)
-        grow(below(3) ? hot_seat : below(8), below(2) ? hot_point[below(4)] : any32() & ALL);
+        grow(!below(3) ? below(8) : below(2) ? hot_seat : hot_other, below(2) ? hot_point[below(4)] : any32() & ALL);
     for (uint32_t i = 0; i < book()[8]; i++)
         book()[9 + stack[i]] = i;
     if (!sound(after()))
@@ -1028,6 +1106,7 @@ static void run_episode(void) {
     modelled = false;
     watched = false;
     hot_seat = below(8);
+    hot_other = (hot_seat + 1 + below(7)) % 8;
     for (int i = 0; i < 4; i++)
         hot_point[i] = i > 0 && below(2) ? hot_point[0] ^ below(32) << 7 * below(3) : near_corner(any32() & ALL);
     if (episode % 16384 == 7 || episode % 16384 == 8) {

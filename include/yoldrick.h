@@ -155,12 +155,12 @@ uint32_t yoldrick_copy(uint32_t *slots, size_t slots_count, uint64_t *masks, siz
        b is no branch and outside    it stays as it is
        a is no branch and outside    it becomes the branch of b
        both are branches             their slots are combined; a voxel is active if it was in a or in b, with the smaller of its two values (-0 is below +0)
-   A branch may be left empty: it stays until a prune. The seat a stays filled with signs, and can be combined again if no branch is empty. Needs no free cell, and those
-   of b that a does not take over are free then.
+   The seat a stays filled with signs, and can be combined again. Needs no free cell; the cells of b that a does not take over are free then.
    Refusals: 1, 2, 3, 5, 6, 7. Cost: the whole pool, and a walk over the tops and cells of both seats. */
 uint32_t yoldrick_union(uint32_t *slots, size_t slots_count, uint64_t *masks, size_t masks_count, uint32_t *book, size_t book_count, uint32_t a, uint32_t b);
 
-/* The seat a becomes what is in a and not in b; all else is as with a union. For each slot:
+/* The seat a becomes what is in a and not in b; all else is as with a union. But a branch may be left empty: it stays, with its signs, and until a prune and another fill
+   with signs the seat is refused with 7 in a combination. For each slot:
        a is no branch and outside    it stays as it is
        b is no branch and inside     it becomes hidden, outside, with the largest finite value
        b is no branch and outside    it stays as it is
@@ -169,7 +169,7 @@ uint32_t yoldrick_union(uint32_t *slots, size_t slots_count, uint64_t *masks, si
    Refusals: 1, 2, 3, 5, 6, 7. Cost: as of a union. */
 uint32_t yoldrick_subtract(uint32_t *slots, size_t slots_count, uint64_t *masks, size_t masks_count, uint32_t *book, size_t book_count, uint32_t a, uint32_t b);
 
-/* The seat a becomes what is in both a and b; all else is as with a union. For each slot:
+/* The seat a becomes what is in both a and b; all else is as with a subtraction. For each slot:
        a is no branch and outside    it stays as it is
        b is no branch and outside    it becomes hidden, outside, with the largest finite value
        b is no branch and inside     it stays as it is
