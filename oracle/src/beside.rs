@@ -2,14 +2,15 @@
 //! refusals 7, 8 and 9 included: the nodes that its trees have are the cells that ours must have.
 //!
 //! Lookups are compared after every call. Signs are compared where 01 says: after a fill with signs of a grid that is not
-//! empty and has no empty branch, and up to the next change; a flip turns each sign that the Rust had before it. What
+//! empty and has no empty branch, and up to the next change; a flip turns each sign that the Rust had before it, and a
+//! combination joins those that it had in the two seats. What
 //! the Rust does elsewhere is in docs/DIFFERENCES.md, and there the answer owed is 01's.
 
 use crate::dice::Dice;
 use crate::grids::*;
 use crate::helpers::aliases::Vec3i;
 use crate::voxel::{top, Grid, Sign, Tile, TreeNode, Visitor};
-use std::collections::BTreeSet;
+use std::collections::{BTreeMap, BTreeSet};
 use std::io::Write;
 
 pub type Checked = Result<(), String>;
@@ -76,20 +77,54 @@ pub struct Made {
     pub flips: u64,
     pub sign_fills: u64,
     pub copies: u64,
+    /// Accepted ones, and those of them that left a branch empty.
+    pub combinations: u64,
+    pub hollowed: u64,
     pub looks: u64,
-    /// Of these, how many were refused with 7, 8 and 9.
+    /// Of these, how many were refused with 6, 7, 8 and 9.
+    pub unfilled: u64,
     pub hollow: u64,
     pub onto_full: u64,
     pub for_cells: u64,
 }
 
 /// What the signs of a filled seat have to be.
-struct Signs<T> {
-    /// Whether the seat was empty, and so all positive, which the Rust does not do.
-    of_empty: bool,
-    /// The Rust's grid before the first flip, since that turns not all of its signs.
-    unflipped: Option<Box<T>>,
-    turned: bool,
+enum Signs<T> {
+    /// Those of the Rust's grid.
+    Own,
+    /// Those of the Rust's grid as it was, since neither a flip nor a combination turns all of its signs.
+    Kept(Box<T>),
+    /// The seat was empty, and so all are positive, which the Rust does not do.
+    Positive,
+    Turned(Box<Signs<T>>),
+    Joined(Operation, Box<[Signs<T>; 2]>),
+}
+
+impl<T: Grid> Signs<T> {
+    fn is_negative(&self, own: &T, at: Vec3i) -> bool {
+        match self {
+            Self::Own => own.sign_at(&at) == Sign::Negative,
+            Self::Kept(grid) => grid.sign_at(&at) == Sign::Negative,
+            Self::Positive => false,
+            Self::Turned(signs) => !signs.is_negative(own, at),
+            Self::Joined(operation, signs) => {
+                let [a, b] = [&signs[0], &signs[1]].map(|signs| signs.is_negative(own, at));
+                operation.joins(a, b)
+            }
+        }
+    }
+
+    /// The same signs, whatever becomes of the grid. The Rust's copy has no hidden values of its own.
+    fn keep(self, own: &T) -> Self {
+        match self {
+            Self::Own => {
+                let mut kept = TreeNode::clone(own);
+                kept.flood_fill();
+                Self::Kept(kept)
+            }
+            kept => kept,
+        }
+    }
 }
 
 /// A pool, the Rust's eight grids beside it, and what was compared. A run ends at the first difference.
@@ -97,11 +132,14 @@ pub struct Run<'a, T> {
     library: &'a Library,
     pool: Pool,
     cells: usize,
+    empty: fn() -> Box<T>,
     grids: Vec<Box<T>>,
     /// Of each seat that is filled with signs.
     signs: Vec<Option<Signs<T>>>,
     /// Seats and places of middle nodes without any slot, which the Rust's visitors pass over.
     bare: BTreeSet<(u32, [isize; 3])>,
+    /// And of those whose slots are all active tiles, as a combination may leave them.
+    solid: BTreeSet<(u32, [isize; 3])>,
     /// The cells that the Rust's grids have.
     reached: usize,
     /// Seats and points of the accepted inserts that no step has removed since.
@@ -122,8 +160,7 @@ fn top_slot(at: Vec3i) -> [isize; 3] {
 }
 
 /// The nodes below the top on the way to a point: none, a middle node, or that and a leaf; but a middle node without any
-/// slot is not seen. All slots of a middle node are active only if one is a leaf, since it comes into being with one and a
-/// leaf's end hides its slot.
+/// slot, or with active tiles only, is not seen.
 fn nodes_on_the_way<T: Grid>(grid: &T, at: Point) -> usize {
     let at = masked(at);
     if grid.leaf_at(&at).is_some() {
@@ -150,7 +187,8 @@ fn needs_the_way<T: Grid>(grid: &T, call: Call) -> bool {
 struct Nodes {
     leaves: Vec<Vec3i>,
     empty_leaves: usize,
-    middles: BTreeSet<[isize; 3]>,
+    /// With the number of tiles in each.
+    middles: BTreeMap<[isize; 3], usize>,
 }
 
 impl Nodes {
@@ -168,14 +206,14 @@ impl Nodes {
 impl<L: TreeNode> Visitor<L> for Nodes {
     fn tile(&mut self, tile: Tile<L::Value>) {
         if tile.size == 4 {
-            self.middles.insert(top_slot(tile.origin));
+            *self.middles.entry(top_slot(tile.origin)).or_default() += 1;
         }
     }
 
     fn dense(&mut self, leaf: &L) {
         self.leaves.push(leaf.origin());
         self.empty_leaves += leaf.is_empty() as usize;
-        self.middles.insert(top_slot(leaf.origin()));
+        self.middles.entry(top_slot(leaf.origin())).or_default();
     }
 }
 
@@ -203,9 +241,11 @@ impl<'a, T: Grid> Run<'a, T> {
             library,
             pool,
             cells,
+            empty,
             grids,
             signs,
             bare: BTreeSet::new(),
+            solid: BTreeSet::new(),
             reached: 0,
             inserted: Vec::new(),
             values: VALUES,
@@ -222,6 +262,7 @@ impl<'a, T: Grid> Run<'a, T> {
         self.grids.iter_mut().for_each(|grid| grid.clear());
         self.signs.iter_mut().for_each(|signs| *signs = None);
         self.bare.clear();
+        self.solid.clear();
         self.reached = 0;
         self.inserted.clear();
         self.look()
@@ -238,7 +279,7 @@ impl<'a, T: Grid> Run<'a, T> {
 
     /// As `owed`, and no word changes. Above 200 cells only some are looked at for a change: that takes a copy of the pool.
     fn refused(&mut self, call: Call, code: u32) -> Checked {
-        let refusals = self.made.hollow + self.made.onto_full + self.made.for_cells;
+        let refusals = self.made.unfilled + self.made.hollow + self.made.onto_full + self.made.for_cells;
         let sampled = if self.cells > 200 { self.cells / 32 } else { 1 };
         if refusals % sampled as u64 != 0 {
             return self.owed(call, Answer::refused(code));
@@ -269,7 +310,7 @@ impl<'a, T: Grid> Run<'a, T> {
         self.bare.range((seat, [0; 3])..(seat + 1, [0; 3])).count()
     }
 
-    fn has_empty_branch(&self, seat: u32) -> bool {
+    pub fn has_empty_branch(&self, seat: u32) -> bool {
         self.bare_nodes(seat) > 0 || Nodes::of(&*self.grids[seat as usize]).empty_leaves > 0
     }
 
@@ -287,11 +328,7 @@ impl<'a, T: Grid> Run<'a, T> {
     pub fn sign(&mut self, seat: u32, at: Point) -> Checked {
         let owed = match &self.signs[seat as usize] {
             None => Answer::refused(6),
-            Some(signs) => {
-                let grid = signs.unflipped.as_ref().unwrap_or(&self.grids[seat as usize]);
-                let negative = !signs.of_empty && grid.sign_at(&masked(at)) == Sign::Negative;
-                Answer::found((negative != signs.turned) as u32)
-            }
+            Some(signs) => Answer::found(signs.is_negative(&self.grids[seat as usize], masked(at)) as u32),
         };
         self.made.signs += 1;
         self.owed(Call::Sign { seat, at }, owed)
@@ -332,7 +369,7 @@ impl<'a, T: Grid> Run<'a, T> {
             let at = self.point_in([i >> 6, i >> 3 & 7, i & 7], 16);
             self.lookup_and_sign(seat, at)?;
         }
-        for [x, y, z] in nodes.middles {
+        for [x, y, z] in nodes.middles.into_keys() {
             for i in 0..64 {
                 let at = self.point_in([4 * x + (i >> 4), 4 * y + (i >> 2 & 3), 4 * z + (i & 3)], 4);
                 self.lookup_and_sign(seat, at)?;
@@ -387,9 +424,12 @@ impl<'a, T: Grid> Run<'a, T> {
             (made.flips, "flips"),
             (made.sign_fills, "fills with signs"),
             (made.copies, "copies"),
+            (made.combinations, "combinations"),
+            (made.hollowed, "that left a branch empty"),
+            (made.unfilled, "refused with 6"),
             (made.hollow, "refused with 7"),
-            (made.onto_full, "with 8"),
-            (made.for_cells, "with 9"),
+            (made.onto_full, "refused with 8"),
+            (made.for_cells, "refused with 9"),
             (made.lookups, "lookups"),
             (made.signs, "signs"),
             (made.looks, "looks at the whole pool"),
@@ -423,7 +463,8 @@ impl<T: Grid> Run<'_, T> {
     fn change(&mut self, call: Call, seat: u32, at: Point, rust: impl FnOnce(&mut T)) -> Result<bool, String> {
         let grid = &mut *self.grids[seat as usize];
         let bare = (seat, top_slot(masked(at)));
-        let before = nodes_on_the_way(grid, at) + self.bare.contains(&bare) as usize;
+        let unseen = self.bare.contains(&bare) || self.solid.contains(&bare);
+        let before = nodes_on_the_way(grid, at) + unseen as usize;
         if needs_the_way(grid, call) && 2 - before > self.cells - self.reached {
             self.refused_for_cells(call)?;
             self.lookup(seat, at)?;
@@ -431,7 +472,11 @@ impl<T: Grid> Run<'_, T> {
         }
         rust(grid);
         self.bare.remove(&bare);
-        self.reached = self.reached + nodes_on_the_way(grid, at) - before;
+        let after = nodes_on_the_way(grid, at);
+        if after > 0 {
+            self.solid.remove(&bare);
+        }
+        self.reached = self.reached + after + self.solid.contains(&bare) as usize - before;
         self.signs[seat as usize] = None;
         self.owed(call, Answer::DONE)?;
         self.lookup(seat, at)?;
@@ -464,26 +509,34 @@ impl<T: Grid> Run<'_, T> {
         rust(&mut self.grids[seat as usize]);
         self.bare.retain(|(other, _)| *other != seat);
         self.signs[seat as usize] = None;
+        self.note_solid(seat);
         self.reached += self.reach(seat);
         self.owed(call, Answer::DONE)?;
         self.some_points(seat)
     }
 
+    fn note_solid(&mut self, seat: u32) {
+        let nodes = Nodes::of(&*self.grids[seat as usize]);
+        self.solid.retain(|(other, _)| *other != seat);
+        self.solid.extend(nodes.middles.into_iter().filter(|(_, tiles)| *tiles == 64).map(|(place, _)| (seat, place)));
+    }
+
     /// The Rust does not turn the hidden signs of top and middle nodes: what the signs were is kept apart.
     pub fn flip(&mut self, seat: u32) -> Checked {
         self.made.flips += 1;
-        let grid = &mut self.grids[seat as usize];
-        if let Some(signs) = &mut self.signs[seat as usize] {
-            signs.turned = !signs.turned;
-            if !signs.of_empty && signs.unflipped.is_none() {
-                let mut unflipped = TreeNode::clone(&**grid);
-                unflipped.flood_fill();
-                signs.unflipped = Some(unflipped);
-            }
-        }
-        grid.flip_signs();
+        let signs = self.take_signs(seat).map(|signs| match signs {
+            Signs::Turned(signs) => *signs,
+            signs => Signs::Turned(Box::new(signs)),
+        });
+        self.signs[seat as usize] = signs;
+        self.grids[seat as usize].flip_signs();
         self.owed(Call::Flip { seat }, Answer::DONE)?;
         self.some_points(seat)
+    }
+
+    fn take_signs(&mut self, seat: u32) -> Option<Signs<T>> {
+        let signs = self.signs[seat as usize].take()?;
+        Some(signs.keep(&self.grids[seat as usize]))
     }
 
     /// The Rust leaves fresh memory in an empty grid, and spreads it from an empty branch: it fills neither.
@@ -499,7 +552,7 @@ impl<T: Grid> Run<'_, T> {
         if !of_empty {
             grid.flood_fill();
         }
-        self.signs[seat as usize] = Some(Signs { of_empty, unflipped: None, turned: false });
+        self.signs[seat as usize] = Some(if of_empty { Signs::Positive } else { Signs::Own });
         self.owed(call, Answer::DONE)?;
         self.some_points(seat)
     }
@@ -521,10 +574,67 @@ impl<T: Grid> Run<'_, T> {
         let bare: Vec<_> = self.bare.iter().filter(|(seat, _)| *seat == from).map(|(_, place)| (to, *place)).collect();
         self.bare.extend(bare);
         self.signs[to as usize] = None;
+        self.note_solid(to);
         self.reached += self.reach(to);
         self.owed(call, Answer::DONE)?;
         self.some_points(from)?;
         self.some_points(to)
+    }
+
+    /// Two seats become one. Does nothing where the Rust has not the signs that 01 gives, so that more than signs differs: a
+    /// seat that was empty when it was filled, or that was flipped or combined since.
+    pub fn combine(&mut self, operation: Operation, a: u32, b: u32) -> Checked {
+        let call = Call::Combine { operation, a, b };
+        if a == b {
+            return self.refused(call, 3);
+        }
+        let signs = [a, b].map(|seat| &self.signs[seat as usize]);
+        if signs.iter().any(|signs| signs.is_none()) {
+            self.made.unfilled += 1;
+            return self.refused(call, 6);
+        }
+        let are_own = signs.iter().all(|signs| matches!(signs, Some(Signs::Own)));
+        if self.has_empty_branch(a) || self.has_empty_branch(b) {
+            self.made.hollow += 1;
+            return self.refused(call, 7);
+        }
+        if !are_own {
+            return Ok(());
+        }
+        self.made.combinations += 1;
+        self.reached -= self.reach(a) + self.reach(b);
+        let joined = [a, b].map(|seat| self.take_signs(seat).unwrap());
+        self.signs[a as usize] = Some(Signs::Joined(operation, Box::new(joined)));
+        let other = std::mem::replace(&mut self.grids[b as usize], (self.empty)());
+        let grid = &mut *self.grids[a as usize];
+        let (of_a, of_b) = (Nodes::of(grid).middles, Nodes::of(&*other).middles);
+        match operation {
+            Operation::Union => grid.union(other),
+            Operation::Subtract => grid.subtract(other),
+            Operation::Intersect => grid.intersect(other),
+        }
+        // Two branches are joined to one, which stays even if nothing in it does.
+        let left = Nodes::of(grid).middles;
+        let bare: Vec<_> = of_a.into_keys().filter(|at| of_b.contains_key(at) && !left.contains_key(at)).collect();
+        self.made.hollowed += !bare.is_empty() as u64;
+        self.bare.extend(bare.into_iter().map(|place| (a, place)));
+        self.note_solid(a);
+        self.note_solid(b);
+        self.reached += self.reach(a);
+        self.owed(call, Answer::DONE)?;
+        self.owed(Call::FreeCells, Answer::found(self.free() as u32))?;
+        self.owed(Call::IsEmpty { seat: b }, Answer::found(1))?;
+        self.some_points(a)?;
+        self.some_points(b)
+    }
+
+    /// Prunes two seats, fills them with signs, and combines them.
+    pub fn combine_afresh(&mut self, operation: Operation, a: u32, b: u32) -> Checked {
+        for seat in [a, b] {
+            self.prune(seat)?;
+            self.fill_signs(seat)?;
+        }
+        self.combine(operation, a, b)
     }
 
     /// The same empty branch in both, where the top's slot is hidden: a middle node alone, or one with an empty leaf. The
@@ -611,7 +721,7 @@ impl<T: Grid> Run<'_, T> {
 
     /// A call on a whole seat. Signs are filled only where there are no zeros.
     fn seat_step(&mut self, seat: u32, kind: Steps) -> Checked {
-        match self.dice.below(if kind == Steps::OnSeats { 24 } else { 14 }) {
+        match self.dice.below(if kind == Steps::OnSeats { 28 } else { 14 }) {
             0 => self.clear(seat),
             1 => {
                 let value = self.value();
@@ -638,6 +748,14 @@ impl<T: Grid> Run<'_, T> {
             17 => {
                 self.fill_signs(seat)?;
                 self.flip(seat)
+            }
+            18 | 19 => {
+                let (operation, other) = (self.dice.pick(&Operation::ALL), self.dice.pick(ALL_SEATS));
+                self.combine(operation, seat, other)
+            }
+            20 | 21 => {
+                let (operation, other) = (self.dice.pick(&Operation::ALL), self.dice.pick(ALL_SEATS));
+                self.combine_afresh(operation, seat, other)
             }
             _ => self.fill_signs(seat),
         }

@@ -22,6 +22,27 @@ pub enum Call {
     Flip { seat: u32 },
     FillSigns { seat: u32 },
     Copy { from: u32, to: u32 },
+    Combine { operation: Operation, a: u32, b: u32 },
+}
+
+#[derive(Debug, Clone, Copy, PartialEq, Eq)]
+pub enum Operation {
+    Union,
+    Subtract,
+    Intersect,
+}
+
+impl Operation {
+    pub const ALL: [Self; 3] = [Self::Union, Self::Subtract, Self::Intersect];
+
+    /// Whether a point is inside after it, that was or was not inside each of the two.
+    pub fn joins(self, a: bool, b: bool) -> bool {
+        match self {
+            Self::Union => a || b,
+            Self::Subtract => a && !b,
+            Self::Intersect => a && b,
+        }
+    }
 }
 
 /// What a cut hides, with the bits of its bounds.
@@ -129,7 +150,7 @@ impl Pool {
     }
 
     /// Makes a free cell, with all its slots hidden, the branch of a slot: of a top, 0 to 7, or of the node that an earlier
-    /// such call gave. No call of our library leaves a branch empty yet, so this writes the words themselves.
+    /// such call gave. A call leaves few of the branches empty that could be, so this writes the words themselves.
     pub fn hang_empty_branch(&mut self, node: usize, slot: usize) -> usize {
         let (slots, masks, book) = (self.slots.words(), self.masks.words(), self.book.words());
         let cells = (book.len() - 9) / 2;
@@ -202,6 +223,9 @@ mod raw {
         yoldrick_flip(u32) -> u32;
         yoldrick_fill_signs(u32) -> u32;
         yoldrick_copy(u32, u32) -> u32;
+        yoldrick_union(u32, u32) -> u32;
+        yoldrick_subtract(u32, u32) -> u32;
+        yoldrick_intersect(u32, u32) -> u32;
     }
 }
 
@@ -263,7 +287,23 @@ pub fn archive(call: Call, pool: &mut Pool) -> Answer {
             Call::Flip { seat } => raw::yoldrick_flip(s, s_count, m, m_count, b, b_count, seat).into(),
             Call::FillSigns { seat } => raw::yoldrick_fill_signs(s, s_count, m, m_count, b, b_count, seat).into(),
             Call::Copy { from, to } => raw::yoldrick_copy(s, s_count, m, m_count, b, b_count, from, to).into(),
+            Call::Combine { operation, a: first, b: second } => {
+                let combine = match operation {
+                    Operation::Union => raw::yoldrick_union,
+                    Operation::Subtract => raw::yoldrick_subtract,
+                    Operation::Intersect => raw::yoldrick_intersect,
+                };
+                combine(s, s_count, m, m_count, b, b_count, first, second).into()
+            }
         }
+    }
+}
+
+/// The archive, except that other calls are made in the place of some. The answer is that of the first.
+pub fn replacing(calls: fn(Call) -> Vec<Call>) -> impl Fn(Call, &mut Pool) -> Answer {
+    move |call, pool| {
+        let answers: Vec<Answer> = calls(call).into_iter().map(|call| archive(call, pool)).collect();
+        answers.first().copied().unwrap_or(Answer::DONE)
     }
 }
 

@@ -4,5 +4,6 @@ pub mod beside;
 pub mod bits;
 pub mod dice;
 pub mod grids;
+pub mod shells;
 
 include!(concat!(env!("OUT_DIR"), "/source/lib.rs"));

@@ -143,6 +143,9 @@ fn all_calls(seat: u32, at: Point, bits: u32) -> Vec<Call> {
         Call::Copy { from: 0, to: seat },
         Call::Copy { from: seat, to: seat },
     ];
+    for (a, b) in [(seat, 0), (0, seat), (seat, seat)] {
+        calls.extend(Operation::ALL.map(|operation| Call::Combine { operation, a, b }));
+    }
     calls.extend(calls_with_bits(seat, at, bits));
     calls
 }
@@ -215,6 +218,9 @@ fn of_refusals(library: &Library) -> Result<usize, String> {
         }
         for (seat, bits) in (0..SEATS as u32).zip(NOT_FINITE.into_iter().cycle()) {
             refuses(Call::Copy { from: seat, to: seat }, &pool, 3)?;
+            for operation in Operation::ALL {
+                refuses(Call::Combine { operation, a: seat, b: seat }, &pool, 3)?;
+            }
             let calls = calls_with_bits(seat, [-1, 128, 3], bits);
             calls.into_iter().try_for_each(|call| refuses(call, &pool, 4))?;
         }
