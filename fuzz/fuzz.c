@@ -101,6 +101,9 @@ static bool filled[8], turned[8];
 /* The points and the two seats that an episode comes back to. */
 static uint32_t hot_point[4], hot_seat, hot_other;
 
+/* Whether most values of an episode are zeros and ones, so that equal ones meet. */
+static bool few_values;
+
 static uint64_t state;
 
 static const uint32_t FAR = 0x7f7fffffu, MINUS = 0x80000000u;
@@ -869,7 +872,10 @@ static void make(const call *c) {
 
 static uint32_t value_word(void) {
     static const uint32_t odd[] = {0, 0x80000000u, 0x7f800000u, 0xff800000u, 0x7fc00000u, 0x7f800001u, 0xffffffffu, 0x7f7fffffu, 0xff7fffffu, 1, 0x80000001u};
+    static const uint32_t few[] = {0, 0x80000000u, 0x3f800000u, 0xbf800000u};
     uint32_t w = any32();
+    if (few_values && below(8))
+        return few[below(4)];
     if (below(3) == 0)
         return odd[below(sizeof odd / sizeof *odd)];
     return finite_word(w) || below(8) == 0 ? w : w ^ 0x40000000u;
@@ -1105,6 +1111,7 @@ static void run_episode(void) {
     uint32_t n = below(4) ? 1 + below(6) : below(16) ? 1 + below(40) : 1 + below(300);
     modelled = false;
     watched = false;
+    few_values = below(4) == 0;
     hot_seat = below(8);
     hot_other = (hot_seat + 1 + below(7)) % 8;
     for (int i = 0; i < 4; i++)

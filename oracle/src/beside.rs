@@ -638,7 +638,7 @@ impl<T: Grid> Run<'_, T> {
     }
 
     /// The same empty branch in both, where the top's slot is hidden: a middle node alone, or one with an empty leaf. The
-    /// calls of our library leave none, so this writes the memory. Does nothing where it cannot be, or the seat is filled.
+    /// calls of our library seldom leave one, so this writes the memory. Does nothing where it cannot be, or the seat is filled.
     pub fn hang_empty_branch(&mut self, seat: u32, at: Point, with_leaf: bool) -> Checked {
         let (grid, place) = (&mut *self.grids[seat as usize], masked(at));
         let bare = (seat, top_slot(place));
