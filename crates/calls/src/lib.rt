@@ -1,6 +1,10 @@
 // The calls for C, on the three lent slices of a pool. Each takes numbers and slices alone and asks nothing of its caller: what does not fit is refused, and a refused
 // call has changed no lent word. A slice is a pointer and a count of elements in C, and a point is three signed coordinates, of which the low 7 bits count.
 use floats::Test;
+use nodes::memory::BOTH_TOP_MASKS;
+use nodes::memory::CELL;
+use nodes::memory::HEAD;
+use nodes::memory::TOPS;
 use pool::pair;
 use pool::pair::Operation;
 use pool::seat;
@@ -15,8 +19,8 @@ ghost use mathlib.Core.Path.{_≡_};
 ghost use Rattle.floats.specs.declared.Test.the-variants.{Below, Above, Between};
 ghost use Rattle.grid.specs.Combine.{union, subtract, intersect};
 ghost use Rattle.seats.specs.Call.{One, Two, Lookup, Sign, Insert, Remove, Fill, Cut, Clear, Prune, Flip, FillSigns, IsEmpty, Copy, Combine, Prepare, Count};
-ghost use Rattle.pool.specs.Answers.{memOf, Says, codeOf};
-ghost use Rattle.calls.specs.Forms.{pointAt, codeOnly, answerOf, answerF, countAnswerOf, countF, truthAnswerOf, truthF};
+ghost use Rattle.pool.specs.Answers.{memOf};
+ghost use Rattle.calls.specs.Forms.{pointAt, codeOnly, answerF, countF, truthF, Answered, noSizes, sizesOf};
 
 // Code 0: found, and value is it. Codes 1 to 9: the refusal of that number. Code 10: nothing there. The value is +0 where the code is not 0.
 #[repr(C)]
@@ -30,6 +34,26 @@ pub struct GridAnswer {
 pub struct GridNumber {
     pub code: u32,
     pub number: u32,
+}
+
+// Code 0: the lengths of the three slices. Code 1: there is no such pool, and the lengths are 0.
+#[repr(C)]
+pub struct GridSizes {
+    pub code: u32,
+    pub slots: u32,
+    pub masks: u32,
+    pub book: u32,
+}
+
+fn no_sizes() -> GridSizes
+    ensures { λ r. ⌜ r ≡ noSizes ⌝ }
+{
+    GridSizes {
+        code: 1,
+        slots: 0,
+        masks: 0,
+        book: 0,
+    }
 }
 
 fn without(code: u32) -> GridAnswer
@@ -72,10 +96,30 @@ fn told(whether: Whether) -> GridNumber
     }
 }
 
+// The lengths of the slices of a pool of so many cells. No memory is lent yet.
+#[no_mangle]
+pub extern "C" fn yoldrick_sizes(cells: u32) -> GridSizes
+    ensures { λ r. ⌜ r ≡ sizesOf cells ⌝ }
+{
+    let n = cells as usize;
+    if n < 1 {
+        return no_sizes();
+    }
+    if 65535 < n {
+        return no_sizes();
+    }
+    GridSizes {
+        code: 0,
+        slots: (TOPS + CELL * n) as u32,
+        masks: (BOTH_TOP_MASKS + 2 * n) as u32,
+        book: (HEAD + 2 * n) as u32,
+    }
+}
+
 // Every cell is freed and every seat emptied, whatever the memory held.
 #[no_mangle]
 pub extern "C" fn yoldrick_prepare(slots: &mut [u32], masks: &mut [u64], book: &mut [u32]) -> u32
-    ensures { λ r. ⌜ Says codeOf Prepare (memOf (now (slots .entry)) (now (masks .entry)) (now (book .entry))) r (memOf (now (slots .exit)) (now (masks .exit)) (now (book .exit))) ⌝ }
+    ensures { λ r. ⌜ Answered Prepare (memOf (now (slots .entry)) (now (masks .entry)) (now (book .entry))) r (memOf (now (slots .exit)) (now (masks .exit)) (now (book .exit))) ⌝ }
 {
     whole::prepare(slots, masks, book)
 }
@@ -83,7 +127,7 @@ pub extern "C" fn yoldrick_prepare(slots: &mut [u32], masks: &mut [u64], book: &
 // The free cells of the pool.
 #[no_mangle]
 pub extern "C" fn yoldrick_free_cells(slots: &[u32], masks: &[u64], book: &[u32]) -> GridNumber
-    ensures { λ r. ⌜ Says countAnswerOf Count (memOf (now (slots .entry)) (now (masks .entry)) (now (book .entry))) r (memOf (now (slots .entry)) (now (masks .entry)) (now (book .entry))) ⌝ }
+    ensures { λ r. ⌜ Answered Count (memOf (now (slots .entry)) (now (masks .entry)) (now (book .entry))) r (memOf (now (slots .entry)) (now (masks .entry)) (now (book .entry))) ⌝ }
 {
     counted(whole::count(slots, masks, book))
 }
@@ -96,7 +140,7 @@ pub extern "C" fn yoldrick_is_empty(
     book: &[u32],
     seat: u32,
 ) -> GridNumber
-    ensures { λ r. ⌜ Says truthAnswerOf (One seat IsEmpty) (memOf (now (slots .entry)) (now (masks .entry)) (now (book .entry))) r (memOf (now (slots .entry)) (now (masks .entry)) (now (book .entry))) ⌝ }
+    ensures { λ r. ⌜ Answered (One seat IsEmpty) (memOf (now (slots .entry)) (now (masks .entry)) (now (book .entry))) r (memOf (now (slots .entry)) (now (masks .entry)) (now (book .entry))) ⌝ }
 {
     told(whole::is_empty(slots, masks, book, seat))
 }
@@ -112,7 +156,7 @@ pub extern "C" fn yoldrick_lookup(
     y: i32,
     z: i32,
 ) -> GridAnswer
-    ensures { λ r. ⌜ Says answerOf (One seat (Lookup (pointAt x y z))) (memOf (now (slots .entry)) (now (masks .entry)) (now (book .entry))) r (memOf (now (slots .entry)) (now (masks .entry)) (now (book .entry))) ⌝ }
+    ensures { λ r. ⌜ Answered (One seat (Lookup (pointAt x y z))) (memOf (now (slots .entry)) (now (masks .entry)) (now (book .entry))) r (memOf (now (slots .entry)) (now (masks .entry)) (now (book .entry))) ⌝ }
 {
     let v = nodes::geometry::voxel(x, y, z);
     answer(voxel::lookup(slots, masks, book, seat, v))
@@ -129,7 +173,7 @@ pub extern "C" fn yoldrick_sign(
     y: i32,
     z: i32,
 ) -> GridNumber
-    ensures { λ r. ⌜ Says truthAnswerOf (One seat (Sign (pointAt x y z))) (memOf (now (slots .entry)) (now (masks .entry)) (now (book .entry))) r (memOf (now (slots .entry)) (now (masks .entry)) (now (book .entry))) ⌝ }
+    ensures { λ r. ⌜ Answered (One seat (Sign (pointAt x y z))) (memOf (now (slots .entry)) (now (masks .entry)) (now (book .entry))) r (memOf (now (slots .entry)) (now (masks .entry)) (now (book .entry))) ⌝ }
 {
     let v = nodes::geometry::voxel(x, y, z);
     told(whole::sign(slots, masks, book, seat, v))
@@ -148,7 +192,7 @@ pub extern "C" fn yoldrick_insert(
     z: i32,
     bits: u32,
 ) -> u32
-    ensures { λ r. ⌜ Says codeOf (One seat (Insert (pointAt x y z) bits)) (memOf (now (slots .entry)) (now (masks .entry)) (now (book .entry))) r (memOf (now (slots .exit)) (now (masks .exit)) (now (book .exit))) ⌝ }
+    ensures { λ r. ⌜ Answered (One seat (Insert (pointAt x y z) bits)) (memOf (now (slots .entry)) (now (masks .entry)) (now (book .entry))) r (memOf (now (slots .exit)) (now (masks .exit)) (now (book .exit))) ⌝ }
 {
     let v = nodes::geometry::voxel(x, y, z);
     voxel::insert(slots, masks, book, seat, v, bits)
@@ -165,7 +209,7 @@ pub extern "C" fn yoldrick_remove(
     y: i32,
     z: i32,
 ) -> u32
-    ensures { λ r. ⌜ Says codeOf (One seat (Remove (pointAt x y z))) (memOf (now (slots .entry)) (now (masks .entry)) (now (book .entry))) r (memOf (now (slots .exit)) (now (masks .exit)) (now (book .exit))) ⌝ }
+    ensures { λ r. ⌜ Answered (One seat (Remove (pointAt x y z))) (memOf (now (slots .entry)) (now (masks .entry)) (now (book .entry))) r (memOf (now (slots .exit)) (now (masks .exit)) (now (book .exit))) ⌝ }
 {
     let v = nodes::geometry::voxel(x, y, z);
     voxel::remove(slots, masks, book, seat, v)
@@ -180,7 +224,7 @@ pub extern "C" fn yoldrick_fill(
     seat: u32,
     bits: u32,
 ) -> u32
-    ensures { λ r. ⌜ Says codeOf (One seat (Fill bits)) (memOf (now (slots .entry)) (now (masks .entry)) (now (book .entry))) r (memOf (now (slots .exit)) (now (masks .exit)) (now (book .exit))) ⌝ }
+    ensures { λ r. ⌜ Answered (One seat (Fill bits)) (memOf (now (slots .entry)) (now (masks .entry)) (now (book .entry))) r (memOf (now (slots .exit)) (now (masks .exit)) (now (book .exit))) ⌝ }
 {
     seat::change(slots, masks, book, seat, Task::Fill(bits))
 }
@@ -193,7 +237,7 @@ pub extern "C" fn yoldrick_clear(
     book: &mut [u32],
     seat: u32,
 ) -> u32
-    ensures { λ r. ⌜ Says codeOf (One seat Clear) (memOf (now (slots .entry)) (now (masks .entry)) (now (book .entry))) r (memOf (now (slots .exit)) (now (masks .exit)) (now (book .exit))) ⌝ }
+    ensures { λ r. ⌜ Answered (One seat Clear) (memOf (now (slots .entry)) (now (masks .entry)) (now (book .entry))) r (memOf (now (slots .exit)) (now (masks .exit)) (now (book .exit))) ⌝ }
 {
     seat::change(slots, masks, book, seat, Task::Clear)
 }
@@ -206,7 +250,7 @@ pub extern "C" fn yoldrick_prune(
     book: &mut [u32],
     seat: u32,
 ) -> u32
-    ensures { λ r. ⌜ Says codeOf (One seat Prune) (memOf (now (slots .entry)) (now (masks .entry)) (now (book .entry))) r (memOf (now (slots .exit)) (now (masks .exit)) (now (book .exit))) ⌝ }
+    ensures { λ r. ⌜ Answered (One seat Prune) (memOf (now (slots .entry)) (now (masks .entry)) (now (book .entry))) r (memOf (now (slots .exit)) (now (masks .exit)) (now (book .exit))) ⌝ }
 {
     seat::change(slots, masks, book, seat, Task::Turn(Work::Prune))
 }
@@ -220,7 +264,7 @@ pub extern "C" fn yoldrick_cut_below(
     seat: u32,
     high: f32,
 ) -> u32
-    ensures { λ r. ⌜ Says codeOf (One seat (Cut (Below high))) (memOf (now (slots .entry)) (now (masks .entry)) (now (book .entry))) r (memOf (now (slots .exit)) (now (masks .exit)) (now (book .exit))) ⌝ }
+    ensures { λ r. ⌜ Answered (One seat (Cut (Below high))) (memOf (now (slots .entry)) (now (masks .entry)) (now (book .entry))) r (memOf (now (slots .exit)) (now (masks .exit)) (now (book .exit))) ⌝ }
 {
     seat::change(
         slots,
@@ -240,7 +284,7 @@ pub extern "C" fn yoldrick_cut_above(
     seat: u32,
     low: f32,
 ) -> u32
-    ensures { λ r. ⌜ Says codeOf (One seat (Cut (Above low))) (memOf (now (slots .entry)) (now (masks .entry)) (now (book .entry))) r (memOf (now (slots .exit)) (now (masks .exit)) (now (book .exit))) ⌝ }
+    ensures { λ r. ⌜ Answered (One seat (Cut (Above low))) (memOf (now (slots .entry)) (now (masks .entry)) (now (book .entry))) r (memOf (now (slots .exit)) (now (masks .exit)) (now (book .exit))) ⌝ }
 {
     seat::change(
         slots,
@@ -261,7 +305,7 @@ pub extern "C" fn yoldrick_cut_between(
     low: f32,
     high: f32,
 ) -> u32
-    ensures { λ r. ⌜ Says codeOf (One seat (Cut (Between low high))) (memOf (now (slots .entry)) (now (masks .entry)) (now (book .entry))) r (memOf (now (slots .exit)) (now (masks .exit)) (now (book .exit))) ⌝ }
+    ensures { λ r. ⌜ Answered (One seat (Cut (Between low high))) (memOf (now (slots .entry)) (now (masks .entry)) (now (book .entry))) r (memOf (now (slots .exit)) (now (masks .exit)) (now (book .exit))) ⌝ }
 {
     seat::change(
         slots,
@@ -280,7 +324,7 @@ pub extern "C" fn yoldrick_flip(
     book: &mut [u32],
     seat: u32,
 ) -> u32
-    ensures { λ r. ⌜ Says codeOf (One seat Flip) (memOf (now (slots .entry)) (now (masks .entry)) (now (book .entry))) r (memOf (now (slots .exit)) (now (masks .exit)) (now (book .exit))) ⌝ }
+    ensures { λ r. ⌜ Answered (One seat Flip) (memOf (now (slots .entry)) (now (masks .entry)) (now (book .entry))) r (memOf (now (slots .exit)) (now (masks .exit)) (now (book .exit))) ⌝ }
 {
     seat::change(slots, masks, book, seat, Task::Turn(Work::Flip))
 }
@@ -293,7 +337,7 @@ pub extern "C" fn yoldrick_fill_signs(
     book: &mut [u32],
     seat: u32,
 ) -> u32
-    ensures { λ r. ⌜ Says codeOf (One seat FillSigns) (memOf (now (slots .entry)) (now (masks .entry)) (now (book .entry))) r (memOf (now (slots .exit)) (now (masks .exit)) (now (book .exit))) ⌝ }
+    ensures { λ r. ⌜ Answered (One seat FillSigns) (memOf (now (slots .entry)) (now (masks .entry)) (now (book .entry))) r (memOf (now (slots .exit)) (now (masks .exit)) (now (book .exit))) ⌝ }
 {
     seat::change(slots, masks, book, seat, Task::Signs)
 }
@@ -307,7 +351,7 @@ pub extern "C" fn yoldrick_copy(
     from: u32,
     to: u32,
 ) -> u32
-    ensures { λ r. ⌜ Says codeOf (Two Copy from to) (memOf (now (slots .entry)) (now (masks .entry)) (now (book .entry))) r (memOf (now (slots .exit)) (now (masks .exit)) (now (book .exit))) ⌝ }
+    ensures { λ r. ⌜ Answered (Two Copy from to) (memOf (now (slots .entry)) (now (masks .entry)) (now (book .entry))) r (memOf (now (slots .exit)) (now (masks .exit)) (now (book .exit))) ⌝ }
 {
     pair::copy(slots, masks, book, from, to)
 }
@@ -321,7 +365,7 @@ pub extern "C" fn yoldrick_union(
     a: u32,
     b: u32,
 ) -> u32
-    ensures { λ r. ⌜ Says codeOf (Two (Combine union) a b) (memOf (now (slots .entry)) (now (masks .entry)) (now (book .entry))) r (memOf (now (slots .exit)) (now (masks .exit)) (now (book .exit))) ⌝ }
+    ensures { λ r. ⌜ Answered (Two (Combine union) a b) (memOf (now (slots .entry)) (now (masks .entry)) (now (book .entry))) r (memOf (now (slots .exit)) (now (masks .exit)) (now (book .exit))) ⌝ }
 {
     pair::combine(slots, masks, book, a, b, Operation::Union)
 }
@@ -335,7 +379,7 @@ pub extern "C" fn yoldrick_subtract(
     a: u32,
     b: u32,
 ) -> u32
-    ensures { λ r. ⌜ Says codeOf (Two (Combine subtract) a b) (memOf (now (slots .entry)) (now (masks .entry)) (now (book .entry))) r (memOf (now (slots .exit)) (now (masks .exit)) (now (book .exit))) ⌝ }
+    ensures { λ r. ⌜ Answered (Two (Combine subtract) a b) (memOf (now (slots .entry)) (now (masks .entry)) (now (book .entry))) r (memOf (now (slots .exit)) (now (masks .exit)) (now (book .exit))) ⌝ }
 {
     pair::combine(slots, masks, book, a, b, Operation::Subtract)
 }
@@ -349,7 +393,7 @@ pub extern "C" fn yoldrick_intersect(
     a: u32,
     b: u32,
 ) -> u32
-    ensures { λ r. ⌜ Says codeOf (Two (Combine intersect) a b) (memOf (now (slots .entry)) (now (masks .entry)) (now (book .entry))) r (memOf (now (slots .exit)) (now (masks .exit)) (now (book .exit))) ⌝ }
+    ensures { λ r. ⌜ Answered (Two (Combine intersect) a b) (memOf (now (slots .entry)) (now (masks .entry)) (now (book .entry))) r (memOf (now (slots .exit)) (now (masks .exit)) (now (book .exit))) ⌝ }
 {
     pair::combine(slots, masks, book, a, b, Operation::Intersect)
 }

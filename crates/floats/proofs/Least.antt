@@ -85,7 +85,7 @@ module _ (v w : ℕ) (lv : v < 0x1_0000_0000) (lw : w < 0x1_0000_0000) (hv : isF
       M : lt (value w) (value v) ≡ below (negative w) b (negative v) a
       M = less-is w v lw lv hw hv
 
-  -- "Equality is numeric: the two zeros are equal", and no other two words
+  -- "Equality at insert is numeric: the two zeros are equal", and no other two words
   pub equal-means : equal v w ≡ true → Alike v w
   unfolding a b
   equal-means e = go (negative v) (negative w) refl refl (f .0) (f .1)

@@ -1,19 +1,19 @@
 -- Small grids worked out by hand from document 01, and computed here: what the definitions say of them. Assumes nothing.
 use mathlib.Core.Path.{_≡_, refl}
 use mathlib.Core.Bool.{true, false}
-use mathlib.Core.List.{[], _∷_}
+use mathlib.Core.List.{List, [], _∷_}
 use mathlib.Core.Option.{some}
 use Prim.Native.Nat.{ℕ}
 use lib.IntN.{pos, negsuc}
 use lib.Dec.{eqb}
 use lib.Ieee.{lt, ofBits}
 use Rattle.floats.specs.Value.{negative, negated, far, farWith, before, least, most}
-use Rattle.grid.specs.Combine.{union, subtract, intersect, underB, underA, joinedVoxels, combineS}
+use Rattle.grid.specs.Combine.{Operation, union, subtract, intersect, underB, underA, joinedVoxels, combineS}
 use Rattle.grid.specs.Geometry.{masked, total, part, slotOf}
 use Rattle.grid.specs.Node.{branch, tile, hidden, isHidden, size, Node, SlotOf, changed, every}
 use Rattle.grid.specs.SignFill.{firstSign, lastSign, along, start, signI, signJ, signK, carried, filledRows, fillSigns}
-use Rattle.grid.specs.Voxel.{lookup, lookupS, kept}
-use Rattle.grid.specs.Whole.{pruneS, cutS, flip}
+use Rattle.grid.specs.Voxel.{lookup, lookupS, signAt, signAtS, kept}
+use Rattle.grid.specs.Whole.{pruneS, cutS, flip, hollow, hollowS}
 
 pub coordinates :
     -- "-1 is 127 and 128 is 0"; -3 is 125, and its low 4 bits are 13
@@ -87,17 +87,41 @@ hiddenInside = hidden minus1
 abbrev pub outside : SlotOf (2 ∷ [])
 outside = tile plus1
 
+abbrev pub hiddenOutside : SlotOf (2 ∷ [])
+hiddenOutside = hidden plus1
+
+-- the slot s of a, combined with each kind of slot of b: inside and outside, the same hidden, a branch
+abbrev pub against : Operation → SlotOf (2 ∷ []) → List (SlotOf (2 ∷ []))
+against o s =
+    combineS o (2 ∷ []) s inside ∷ combineS o (2 ∷ []) s outside ∷ combineS o (2 ∷ []) s hiddenInside
+    ∷ combineS o (2 ∷ []) s hiddenOutside ∷ combineS o (2 ∷ []) s (branch rows) ∷ []
+
+-- what becomes of it: x where b is inside, y where b is outside, and z where b has a branch
+abbrev pub becomes : SlotOf (2 ∷ []) → SlotOf (2 ∷ []) → SlotOf (2 ∷ []) → List (SlotOf (2 ∷ []))
+becomes x y z = x ∷ y ∷ x ∷ y ∷ z ∷ []
+
+-- two leaves joined
+abbrev pub both : Operation → SlotOf (2 ∷ [])
+both o = branch (λ i. combineS o [] (pair i) (rows i))
+
 pub combining :
-    -- union: b inside makes the slot inside, an active tile of -far, even where b's was -1; an inside of a stays as it is
-    (combineS union (2 ∷ []) outside inside ≡ tile (farWith true))
-    × (combineS union (2 ∷ []) hiddenInside inside ≡ hiddenInside)
-    -- what subtract and intersect remove ends hidden with +far, also where it was hidden and inside already
-    × (combineS subtract (2 ∷ []) inside inside ≡ hidden far)
-    × (combineS subtract (2 ∷ []) hiddenInside inside ≡ hidden far)
-    × (combineS intersect (2 ∷ []) (branch pair) outside ≡ hidden far)
-    -- a branch of b is taken over, flipped in subtract
-    × (combineS union (2 ∷ []) outside (branch pair) ≡ branch pair)
-    × (combineS subtract (2 ∷ []) inside (branch pair) ≡ branch (flip (2 ∷ []) pair))
+    -- union: an inside of a stays as it is; b inside makes the slot inside, an active tile of -far, even where b's was -1; an outside of b changes nothing
+    (against union inside ≡ becomes inside inside inside)
+    × (against union outside ≡ becomes (tile (farWith true)) outside (branch rows))
+    × (against union hiddenInside ≡ becomes hiddenInside hiddenInside hiddenInside)
+    × (against union hiddenOutside ≡ becomes (tile (farWith true)) hiddenOutside (branch rows))
+    × (against union (branch pair) ≡ becomes (tile (farWith true)) (branch pair) (both union))
+    -- what subtract and intersect remove ends hidden with +far, also where it was hidden and inside already; a branch of b is taken over, flipped in subtract
+    × (against subtract inside ≡ becomes (hidden far) inside (branch (flip (2 ∷ []) rows)))
+    × (against subtract outside ≡ becomes outside outside outside)
+    × (against subtract hiddenInside ≡ becomes (hidden far) hiddenInside (branch (flip (2 ∷ []) rows)))
+    × (against subtract hiddenOutside ≡ becomes hiddenOutside hiddenOutside hiddenOutside)
+    × (against subtract (branch pair) ≡ becomes (hidden far) (branch pair) (both subtract))
+    × (against intersect inside ≡ becomes inside (hidden far) (branch rows))
+    × (against intersect outside ≡ becomes outside outside outside)
+    × (against intersect hiddenInside ≡ becomes hiddenInside (hidden far) (branch rows))
+    × (against intersect hiddenOutside ≡ becomes hiddenOutside hiddenOutside hiddenOutside)
+    × (against intersect (branch pair) ≡ becomes (branch pair) (hidden far) (both intersect))
     -- two leaves: minima and maxima, masks joined
     × (combineS union [] (tile plus1) (hidden minus1) ≡ tile minus1)
     × (combineS union [] (hidden plus1) (tile minus1) ≡ tile minus1)
@@ -107,4 +131,20 @@ pub combining :
     × (combineS union [] (tile 0) (tile 0x8000_0000) ≡ tile 0x8000_0000)
     × (combineS intersect [] (tile 0x8000_0000) (tile 0) ≡ tile 0)
 unfolding combineS joinedVoxels underA underB negative negated least most before lt ofBits
-combining = (refl, refl, refl, refl, refl, refl, refl, refl, refl, refl, refl, refl, refl)
+combining = (refl, refl, refl, refl, refl, refl, refl, refl, refl, refl, refl, refl, refl, refl, refl, refl, refl, refl, refl, refl, refl)
+
+-- a middle node with an active slot 0, whose other slots are hidden and inside
+abbrev pub lone : ℕ → Node (2 ∷ 2 ∷ [])
+lone v = changed 64 0 (λ _. tile v) (λ _. hidden minus1)
+
+-- two of them intersected, of which the second is outside in slot 0
+abbrev pub bare : SlotOf (2 ∷ 2 ∷ [])
+bare = combineS intersect (2 ∷ 2 ∷ []) (branch (lone minus1)) (branch (lone plus1))
+
+pub emptied :
+    -- "A branch that joining leaves with both masks empty keeps its place and the signs of its slots"
+    (hollowS (2 ∷ 2 ∷ []) bare ≡ true)
+    × (signAtS (2 ∷ 2 ∷ []) bare (record { x = pos 0; y = pos 0; z = pos 0 }) ≡ false)
+    × (signAtS (2 ∷ 2 ∷ []) bare (record { x = pos 0; y = pos 0; z = pos 4 }) ≡ true)
+unfolding combineS underA underB hollow every isHidden size changed signAt slotOf part total masked negative far
+emptied = (refl, refl, refl)

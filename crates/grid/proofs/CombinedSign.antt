@@ -70,3 +70,9 @@ module _ (p : Point) where
   combined-sign o (b ∷ bs) (branch m) (tile w) = underB-sign o (b ∷ bs) (negative w) (branch m)
   combined-sign o (b ∷ bs) (branch m) (hidden w) = underB-sign o (b ∷ bs) (negative w) (branch m)
   combined-sign o (b ∷ bs) (branch m) (branch n) = combined-sign o bs (m (slotOf b bs p)) (n (slotOf b bs p))
+
+  -- of two grids
+  pub combine-sign : (o : Operation) (b : ℕ) (bs : List ℕ) (n n' : Node (b ∷ bs))
+      → signAt (b ∷ bs) (λ i. combineS o bs (n i) (n' i)) p ≡ combinedSign o (signAt (b ∷ bs) n p) (signAt (b ∷ bs) n' p)
+  unfolding signAt
+  combine-sign o b bs n n' = combined-sign o bs (n (slotOf b bs p)) (n' (slotOf b bs p))

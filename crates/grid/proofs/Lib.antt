@@ -6,6 +6,7 @@ pub mod Voxel
 pub mod Whole
 pub mod SignFill
 pub mod CombinedSign
+pub mod CombinedEnd
 pub mod Subtract
 pub mod Cells
 pub mod Reach

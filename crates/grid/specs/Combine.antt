@@ -34,7 +34,7 @@ settledBy union = true
 settledBy subtract = true
 settledBy intersect = false
 
--- what the slot is then: "make inside", or "where subtract or intersect removes, the slot ends hidden with +far"
+-- what the slot is then: an inside tile of -far, as in the source, or "where subtract or intersect removes, the slot ends hidden with +far"
 abbrev pub settled : Operation → (bs : List ℕ) → SlotOf bs
 settled union bs = tile (farWith true)
 settled subtract bs = hidden far

@@ -5,3 +5,4 @@ pub mod Voxel
 pub mod Whole
 pub mod SignFill
 pub mod Combine
+pub mod End

@@ -44,7 +44,7 @@ cellsS bs s = onSlot (λ c. cells bs c) (λ v. 0) (λ v. 0) s
 unfoldable pub reach : (b : ℕ) (bs : List ℕ) → Node (b ∷ bs) → ℕ
 reach b bs n = sum (size b) (λ i. cellsS bs (n i))
 
--- empty: "both top masks empty"
+-- empty: no slot of the top is active or a branch, so both its masks are empty
 unfoldable pub isEmpty : (b : ℕ) (bs : List ℕ) → Node (b ∷ bs) → Bool
 isEmpty b bs n = every isHidden (size b) n
 

@@ -38,6 +38,7 @@ use Rattle.means.proofs.Wipe.{wipe-slot, wipe-clear}
 use Rattle.means.proofs.Joined.{joined-first, joined-ruled, joined-others, below-differ, joined-lift, joined-upto, joined-each}
 use Rattle.means.proofs.Take.{take-joined}
 use Rattle.means.proofs.Turn.{turn-right}
+use Rattle.means.proofs.Unspoilt.{unspoilt-then}
 
 -- ---- the meaning at one slot; a slot that is no branch holds u, active if v says so
 flat-on : {B C : Type 0} (f : C → B) (g : ℕ → B) (v : Bool) (u : ℕ) → onSlot f g g (cond v (tile u) (hidden u)) ≡ g u
@@ -264,6 +265,7 @@ module _ {n : ℕ} {s : St} (sd : Sound n s) (a b : ℕ) (ha : a < 8) (hb : b < 
         cleared = w .grid;
         others = λ t h na nb. joined-others sd (ha, refl) (hb, refl) p t (h, refl) na nb ∙ others (p .sound) b t hb h nb w;
         marks = w .marks ∙ p .marks;
+        unspoilt = unspoilt-then (p .unspoilt) (w .unspoilt);
       }
 
 -- the three operations: a subtraction is an intersection with b flipped
@@ -284,6 +286,7 @@ module _ {n : ℕ} {s : St} (sd : Sound n s) (a b : ℕ) (ha : a < 8) (hb : b < 
         cleared = c .cleared;
         others = λ t h na nb. others sd b t hb h nb f ∙ c .others t h na nb;
         marks = c .marks ∙ f .marks;
+        unspoilt = unspoilt-then (f .unspoilt) (c .unspoilt);
       }
 
   pub combined-by : (o : Operation) → By o

@@ -51,7 +51,7 @@ abbrev held : St → ℕ → (ℕ → ℕ) → ℕ → ℕ
 held s x f c = cond (eqb (up s c) (128 + x)) (f c) 0
 
 module _ {n : ℕ} {s : St} (sd : Sound n s) where
-  held-of : (c : ℕ) → c < n → Used s c → Held n s c
+  pub held-of : (c : ℕ) → c < n → Used s c → Held n s c
   held-of c lc u = ⊎-elim (λ f. absurd (omega (arith, f .below, sd .few, sd .room))) (λ d. d) (sd .cell c lc)
 
   -- the use mark of slot k of node x is on the one cell that the slot links to, if it is a branch

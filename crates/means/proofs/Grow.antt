@@ -15,6 +15,7 @@ use Rattle.means.proofs.Slots.{slot-branch, slot-flat}
 use Rattle.means.proofs.Frame.{slot-tree, slot-in, Under, under, own-apart}
 use Rattle.means.proofs.Turned.{lift, over}
 use Rattle.means.proofs.Attach as attach
+use Rattle.means.proofs.Unspoilt.{unspoilt-attach}
 
 -- a node of 64 slots that are all alike
 module _ (r : St) (y u : ℕ) (a : Bool) (e : (j : ℕ) → j < 64 → (r .slot y j ≡ u) × (r .kid y j ≡ false) × (r .val y j ≡ a)) where
@@ -66,14 +67,14 @@ module _ {n : ℕ} {s : St} (sd : Sound n s) (l x k u : ℕ) (a : Bool) (h : At 
   same : (y : ℕ) → Live s y → y ≢ x → Same s r y
   same y lv ne j = attach.else-same sd x k u a hx hk fx off some fu y j (old y lv) ne
 
+  hc : c < n
+  hc = sd .stacked (s .count - 1) (omega arith) .inside
+
   pub grow-at : At n r l (8 + c)
   grow-at = go l h hk
     where
       t : r .tag (8 + c - 8) ≡ linked x k
       t = tag-of r c ∙ attach.tag-new sd x k u a hx hk fx off some fu
-
-      hc : c < n
-      hc = sd .stacked (s .count - 1) (omega arith) .inside
 
       go : (l : ℕ) → At n s (suc l) x → k < wide x → At n r l (8 + c)
       go zero h w = (omega arith, omega (arith, hc), omega (arith, t, h .0))
@@ -113,6 +114,7 @@ module _ {n : ℕ} {s : St} (sd : Sound n s) (l x k u : ℕ) (a : Bool) (h : At 
         keep = λ y o. record { slots = same y (o .live) (λ e. o .out (inl e)); tag = tags y (o .live) };
         within = none-in;
         marks = refl;
+        unspoilt = unspoilt-attach x k s u a fu (omega (arith, hc, sd .room));
       }
 
   -- what is then done in the new node

@@ -18,6 +18,7 @@ use Rattle.means.proofs.Slots.{slot-branch, tree-round, changed-like}
 use Rattle.means.proofs.Frame.{in-own, tree-frame, slot-tree, slot-in, Under, under, level-apart, branch-apart, node-apart, in-there}
 use Rattle.means.proofs.Turned.{kept-then, stay, Apart, apart-at, apart-tree, apart-in, nodes-apart}
 use Rattle.means.proofs.Each.{upto, upto-none, upto-more, upto-all}
+use Rattle.means.proofs.Unspoilt.{unspoilt-then}
 
 -- ---- of a node of which slot k alone has changed, the slots past k are as they were
 pub past-slot : {A : Type 0} (m k : ℕ) (f : A → A) (t t' : ℕ → A) → t' ≡ changed m k f t → (j : ℕ) → suc k ≤ j → j < m → t' j ≡ t j
@@ -42,6 +43,7 @@ module _ {n l x y m : ℕ} {s r : St} {g : Node (levels l)} (a : Joined n l x y 
         keep = λ z o. kept-then (a .keep z o) (b .keep z (still-beyond z o));
         within = λ z o. b .within z (still-beyond z o);
         marks = b .marks ∙ a .marks;
+        unspoilt = unspoilt-then (a .unspoilt) (b .unspoilt);
       }
 
   pub joined-into : {g' : Node (levels l)} → g ≡ g' → Joined n l x y m s r g'
@@ -71,6 +73,7 @@ joined-first {n} {l} {x} {y} {s} {r} m sd hx hy ne a =
       keep = λ z o. a .keep z (out z o);
       within = λ z o. ⊎-elim (a .within z (out z o)) (λ i. o .out (inr (apart-in sd a y hy ap' z i)));
       marks = a .marks;
+      unspoilt = a .unspoilt;
     }
   where
     ap' : Apart l s y x
@@ -125,6 +128,7 @@ module _ {n : ℕ} {s : St} (sd : Sound n s) (l x y k : ℕ) (hx : At n s (suc l
           keep = λ z o. a .keep z (deeper z o);
           within = λ z o. ⊎-elim (none-in x hx z (λ i. o .out (inl i)) (λ i. a .within z (deeper z o) (inl i))) (none-in y hy z (λ i. o .out (inr i)) (λ i. a .within z (deeper z o) (inr i)));
           marks = a .marks;
+          unspoilt = a .unspoilt;
         }
 
 -- ---- every slot: where the step at slot k joins slot k of y into that of x by the rule f, the steps at the first m slots join those

@@ -13,8 +13,8 @@ pub mod Insert
 pub mod Joined
 pub mod Levels
 pub mod Lookup
-pub mod Loose
 pub mod Memory
+pub mod Once
 pub mod Pigeon
 pub mod Points
 pub mod Prepared
@@ -34,4 +34,7 @@ pub mod Take
 pub mod Test
 pub mod Turn
 pub mod Turned
+pub mod Twins
+pub mod Unspoilt
 pub mod Wipe
+pub mod Words

@@ -79,7 +79,7 @@ module _ (m : Mem) (s : SoundMem m) where
   within = omega (arith, all-cells)
 
   -- the recorded count is what the seats leave free
-  count-is : poolOf m .count ≡ free 3 (2 ∷ 2 ∷ []) (stateOf m)
+  pub count-is : poolOf m .count ≡ free 3 (2 ∷ 2 ∷ []) (stateOf m)
   unfolding free
   count-is = omega (arith, all-cells)
 

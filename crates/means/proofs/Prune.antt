@@ -12,6 +12,7 @@ use Rattle.means.specs.Level.{span, treeAt, At, In, Equal, Same, Outside
 use Rattle.means.proofs.Levels.{at-wide, at-inside, at-fork, kept-at}
 use Rattle.means.proofs.Frame.{in-own, slot-tree, slot-in, own-apart}
 use Rattle.means.proofs.Release as release
+use Rattle.means.proofs.Unspoilt.{unspoilt-release}
 
 module _ {n : ℕ} {s : St} (sd : Sound n s) (l x k : ℕ) (h : At n s (suc l) x) (q : k < span (suc l)) (on : s .kid x k ≡ true)
     (bare : Fork s (8 + s .slot x k) → (j : ℕ) → j < 64 → s .kid (8 + s .slot x k) j ≡ false) where
@@ -67,4 +68,5 @@ module _ {n : ℕ} {s : St} (sd : Sound n s) (l x k : ℕ) (h : At n s (suc l) x
             };
         within = none-in;
         marks = refl;
+        unspoilt = unspoilt-release x k s;
       }

@@ -17,6 +17,7 @@ use Rattle.means.specs.Level.{span, treeAt, At, In, Equal, Same, Turned}
 use Rattle.means.proofs.Levels.{at-fork, kept-at}
 use Rattle.means.proofs.Slots.{flat-same, slot-flat}
 use Rattle.means.proofs.Frame.{in-own, slot-tree, slot-in, own-apart}
+use Rattle.means.proofs.Unspoilt.{unspoilt-slot}
 
 -- ---- what the changes of functions leave
 pub at1-here : {A : Type 0} (f : ℕ → A) (i : ℕ) (a : A) → at1 f i a i ≡ a
@@ -162,6 +163,7 @@ module _ {n : ℕ} {s : St} (sd : Sound n s) (l x k w : ℕ) (b a : Bool) (h : A
         keep = λ y o. record { slots = λ j. else-same y j (λ e. o .out (subst (In l s x) (sym e) (in-own l s x))); tag = λ q. refl };
         within = λ y o i. o .out (set-in l h y i);
         marks = refl;
+        unspoilt = unspoilt-slot x k s w b a fw;
       }
 
 -- ---- the same by the changes that name no child bit

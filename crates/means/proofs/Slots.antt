@@ -9,16 +9,24 @@ use Rattle.grid.specs.Node.{Slot, branch, tile, hidden, size, changed}
 use Rattle.grid.proofs.Places.{changed-at, changed-is}
 use Rattle.nodes.specs.State.{St, slotAt, flat, tree}
 use Rattle.means.specs.Level.{span, treeAt, Equal}
+use Rattle.means.specs.Twins.{SlotTwin}
 
 -- ---- one slot of two states
+module _ {C : Type 0} (s s' : St) (x x' k : ℕ) where
+  pub flat-twin : s .slot x k ≡ s' .slot x' k → s .val x k ≡ s' .val x' k → flat {C = C} s x k ≡ flat s' x' k
+  flat-twin w v = λ i. cond {A = Slot C} (v i) (tile (w i)) (hidden (w i))
+
+  pub slot-twin : (f f' : ℕ → C) → SlotTwin (λ y y'. f y ≡ f' y') s x s' x' k → slotAt f s x k ≡ slotAt f' s' x' k
+  slot-twin f f' a = on-case (s .kid x k)
+      (λ t. rw (t, sym (a .kid) ∙ t) (ap branch (a .cell t)))
+      (λ t. rw (t, sym (a .kid) ∙ t) (flat-twin (a .word t) (a .val)))
+
 module _ {C : Type 0} {s r : St} {y k : ℕ} (e : Equal s r y k) where
   pub flat-same : flat {C = C} s y k ≡ flat r y k
-  flat-same = λ i. cond {A = Slot C} (e .val i) (tile (e .slot i)) (hidden (e .slot i))
+  flat-same = flat-twin s r y y k (e .slot) (e .val)
 
   pub slot-same : (f g : ℕ → C) → (s .kid y k ≡ true → f (8 + s .slot y k) ≡ g (8 + s .slot y k)) → slotAt f s y k ≡ slotAt g r y k
-  slot-same f g d = on-case (s .kid y k)
-      (λ t. rw (t, sym (e .kid) ∙ t) (ap branch (d t ∙ ap (λ (c : ℕ). g (8 + c)) (e .slot))))
-      (λ t. rw (t, sym (e .kid) ∙ t) flat-same)
+  slot-same f g d = slot-twin s r y y k f g (record { kid = e .kid; val = e .val; word = λ _. e .slot; cell = λ t. d t ∙ ap (λ (c : ℕ). g (8 + c)) (e .slot) })
 
 -- ---- one slot of a node
 pub slot-branch : {C : Type 0} (f : ℕ → C) (s : St) (x k : ℕ) → s .kid x k ≡ true → slotAt f s x k ≡ branch (f (8 + s .slot x k))

@@ -19,6 +19,7 @@ use Rattle.means.proofs.Slots.{slot-branch}
 use Rattle.means.proofs.Frame.{in-own, tree-frame, in-frame, slot-tree, slot-in, level-apart}
 use Rattle.means.proofs.Put.{at1-here, at1-else, at2-here, at2-else, at2-next}
 use Rattle.means.proofs.Joined.{past-slot}
+use Rattle.means.proofs.Unspoilt.{unspoilt-take}
 
 -- ---- two slots changed: what is read elsewhere
 module _ {A : Type 0} (f : ℕ → ℕ → A) (x y k : ℕ) (a b : A) (z j : ℕ) where
@@ -240,4 +241,5 @@ module _ {n : ℕ} {s : St} (sd : Sound n s) (l x y k : ℕ) (hx : At n s (suc l
             };
         within = within;
         marks = refl;
+        unspoilt = unspoilt-take x y k s (omega (arith, own .inside, sd .room));
       }

@@ -9,6 +9,7 @@ use Rattle.nodes.specs.Walk.{branching, below}
 use Rattle.means.specs.Level.{levels, span, treeAt, At, In, Same, Kept, Outside, Turned}
 use Rattle.means.proofs.Levels.{at-inside, at-live, kept-live, kept-at}
 use Rattle.means.proofs.Slots.{slot-branch, tree-round, changed-twice, changed-like, changed-none}
+use Rattle.means.proofs.Unspoilt.{unspoilt-same, unspoilt-then}
 use Rattle.means.proofs.Frame.{in-own, tree-frame, in-frame, Under, under, own-apart, branch-apart, node-apart, in-there, slot-tree, slot-in}
 
 -- ---- what is kept
@@ -29,6 +30,7 @@ stay l x s sd h =
       keep = λ y o. record { slots = λ k. record { slot = refl; kid = refl; val = refl }; tag = λ q. refl };
       within = λ y o. o .out;
       marks = refl;
+      unspoilt = unspoilt-same s;
     }
 
 module _ {n l x : ℕ} {s r : St} {g : Node (levels l)} (a : Turned n l x s r g) where
@@ -44,6 +46,7 @@ module _ {n l x : ℕ} {s r : St} {g : Node (levels l)} (a : Turned n l x s r g)
         keep = λ y o. kept-then (a .keep y o) (b .keep y (still-out y o));
         within = λ y o. b .within y (still-out y o);
         marks = b .marks ∙ a .marks;
+        unspoilt = unspoilt-then (a .unspoilt) (b .unspoilt);
       }
 
   pub into : {g' : Node (levels l)} → g ≡ g' → Turned n l x s r g'
@@ -131,4 +134,5 @@ module _ {n : ℕ} {s : St} (sd : Sound n s) (l x i : ℕ) (h : At n s (suc l) x
         keep = λ y o. a .keep y (deeper y o);
         within = none-in;
         marks = a .marks;
+        unspoilt = a .unspoilt;
       }

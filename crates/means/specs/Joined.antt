@@ -16,6 +16,7 @@ use Rattle.trees.specs.declared.turn.Work.the-variants.{Flip}
 use Rattle.trees.specs.declared.plan.Join.{Join}
 use Rattle.trees.specs.declared.plan.Join.the-variants.{Union, Intersect}
 use Rattle.means.specs.Level.{levels, span, treeAt, At, In, Kept}
+use Rattle.means.specs.Unspoilt.{Unspoilt}
 
 -- the meaning's operation
 abbrev pub joinO : Join → Operation
@@ -28,8 +29,8 @@ pub record Beyond (n l : ℕ) (s : St) (x y z : ℕ) : Type 0 where
   pub live : Live s z
   pub out : In l s x z ⊎ In l s y z → ⊥
 
--- from s to r, node x of level l has become g, with what was in the first m slots of node y; the other slots of y are as they were, and nothing outside the two
--- trees has changed or come into them
+-- from s to r, node x of level l has become g, with what was in the first m slots of node y; the other slots of y are as they were, nothing outside the two trees
+-- has changed or come into them, and no slot is spoilt
 pub record Joined (n l x y m : ℕ) (s r : St) (g : Node (levels l)) : Type 0 where
   pub sound : Sound n r
   pub at-x : At n r l x
@@ -39,14 +40,16 @@ pub record Joined (n l x y m : ℕ) (s r : St) (g : Node (levels l)) : Type 0 wh
   pub keep : (z : ℕ) → Beyond n l s x y z → Kept s r z
   pub within : (z : ℕ) → Beyond n l s x y z → In l r x z ⊎ In l r y z → ⊥
   pub marks : r .mark ≡ s .mark
+  pub unspoilt : Unspoilt s r
 
--- from s to r, seat a has become g, with what was in seat b, which is clear now; no other seat has changed
+-- from s to r, seat a has become g, with what was in seat b, which is clear now; no other seat has changed, and no slot is spoilt
 pub record Combined (n a b : ℕ) (s r : St) (g : Node (levels 2)) : Type 0 where
   pub sound : Sound n r
   pub grid : treeAt 2 r a ≡ g
   pub cleared : treeAt 2 r b ≡ clear 3 (2 ∷ 2 ∷ [])
   pub others : (t : ℕ) → t < 8 → t ≢ a → t ≢ b → treeAt 2 s t ≡ treeAt 2 r t
   pub marks : r .mark ≡ s .mark
+  pub unspoilt : Unspoilt s r
 
 -- what is done to seats a and b: b is joined into a, after a flip of b where it is subtracted, and then cleared
 unfoldable pub combinedS : Operation → ℕ → ℕ → ℕ → St → St

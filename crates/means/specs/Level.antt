@@ -7,6 +7,7 @@ use Prim.Native.Nat.{ℕ, zero, suc, _+_, _-_, _<_, _≤_}
 use Rattle.grid.specs.Node.{tile, hidden, Node, size}
 use Rattle.nodes.specs.State.{St, Middle, Live, Sound, tree}
 use Rattle.nodes.specs.Walk.{branching, below}
+use Rattle.means.specs.Unspoilt.{Unspoilt}
 
 -- a node of level l: its branchings, its own first; the number of its slots; what it stands for
 abbrev pub levels : ℕ → List ℕ
@@ -53,7 +54,7 @@ pub record Outside (n l : ℕ) (s : St) (x y : ℕ) : Type 0 where
   pub live : Live s y
   pub out : In l s x y → ⊥
 
--- from s to r, node x of level l has become g, and nothing outside its tree has changed or come into it
+-- from s to r, node x of level l has become g, nothing outside its tree has changed or come into it, and no slot is spoilt
 pub record Turned (n l x : ℕ) (s r : St) (g : Node (levels l)) : Type 0 where
   pub sound : Sound n r
   pub at : At n r l x
@@ -61,3 +62,4 @@ pub record Turned (n l x : ℕ) (s r : St) (g : Node (levels l)) : Type 0 where
   pub keep : (y : ℕ) → Outside n l s x y → Kept s r y
   pub within : (y : ℕ) → Outside n l s x y → In l r x y → ⊥
   pub marks : r .mark ≡ s .mark
+  pub unspoilt : Unspoilt s r

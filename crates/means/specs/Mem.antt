@@ -2,12 +2,10 @@
 use mathlib.Core.Path.{_≡_}
 use mathlib.Core.Bool.{Bool, true, false, _&&_, _||_, cond}
 use mathlib.Core.List.{List, [], _∷_}
-use mathlib.Core.Logic.{_⊎_}
 use mathlib.Core.Option.{Option}
 use Prim.Native.Nat.{ℕ, _-_, _/_}
-use lib.ListN.{length, getD}
+use lib.ListN.{length}
 use lib.Dec.{ltb, leb, eqb}
-use Rattle.floats.specs.Value.{isFinite}
 use Rattle.bitset.specs.Set.{every}
 use Rattle.grid.specs.Geometry.{Point}
 use Rattle.grid.specs.Whole.{hasHollow, isEmpty}
@@ -20,6 +18,7 @@ use Rattle.nodes.specs.Layout.{st, tops, slotsLength, masksLength, bookLength}
 use Rattle.nodes.specs.Walk.{Reach, active, hidden, broken, reachS, needInsertR, needRemoveR}
 use Rattle.nodes.specs.Test.{soundB}
 use Rattle.means.specs.Ends.{shown, signed}
+use Rattle.means.specs.Unspoilt.{Unspoilt}
 
 -- the three lent slices
 pub record Mem : Type 0 where
@@ -129,6 +128,6 @@ lookupIn i p m = shown (walk m i p)
 abbrev pub negativeIn : ℕ → Point → Mem → Bool
 negativeIn i p m = signed (walk m i p)
 
--- after an accepted insert or remove on an unsound pool: each slot's word is the word before, or finite
-abbrev pub LooseMem : Mem → Mem → Type 0
-LooseMem m m' = (i : ℕ) → (getD (m' .slots) i 0 ≡ getD (m .slots) i 0) ⊎ (isFinite (getD (m' .slots) i 0) ≡ true)
+-- from m to m' no slot is spoilt
+abbrev pub UnspoiltMem : Mem → Mem → Type 0
+UnspoiltMem m m' = Unspoilt (poolOf m) (poolOf m')

@@ -18,13 +18,13 @@ use Rattle.nodes.proofs.Places.{wide-top, wide-cell, word-top, word-cel
 use Rattle.nodes.proofs.Books.{part-at}
 
 -- ---- every place below the end is that of a slot
-record Sits (n i : ℕ) : Type 0 where
+pub record Sits (n i : ℕ) : Type 0 where
   pub x : ℕ
   pub k : ℕ
   pub within : In n x k
   pub there : wordOf x k ≡ i
 
-sits : (n i : ℕ) → i < slotsLength n → Sits n i
+pub sits : (n i : ℕ) → i < slotsLength n → Sits n i
 sits n i h = elim (lt-or-le i tops) [
   | inl l ↦
       let q : i / 512 < 8 = omega arith in

@@ -15,7 +15,7 @@ use Rattle.nodes.specs.declared.walk.Slot.the-variants as slot
 use Rattle.nodes.specs.declared.walk.Ends.{Ends}
 use Rattle.nodes.specs.declared.walk.Ends.the-variants.{Active, Hidden, Broken}
 
--- ---- the table of levels of the grid of 128, "top 3, middle 2, leaf 2": 2 is a top, 1 a middle node, 0 a leaf
+-- ---- the table of levels of the grid of 128, with branching 3, 2 and 2: 2 is a top, 1 a middle node, 0 a leaf
 
 abbrev pub branching : ℕ → ℕ
 branching zero = 2

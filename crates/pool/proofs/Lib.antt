@@ -3,6 +3,7 @@ pub mod Fits
 pub mod Book
 pub mod Ready
 pub mod Checks
+pub mod Own
 pub mod Groups
 pub mod Promises
 pub mod Afford
@@ -11,5 +12,5 @@ pub mod WholePromises
 pub mod Guards
 pub mod Tasks
 pub mod Pairs
-pub mod Demands
 pub mod WholeSeats
+pub mod WholePairs

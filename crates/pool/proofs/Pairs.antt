@@ -41,6 +41,7 @@ use Rattle.means.proofs.Turn.{turn-right}
 use Rattle.means.proofs.Combine.{combined-by}
 use Rattle.means.proofs.SeatPair.{pair-sound-after, pair-seats-after}
 use Rattle.means.proofs.SeatTurn.{turn-sound, turn-seats}
+use Rattle.means.proofs.Unspoilt.{unspoilt-mark}
 use Rattle.csg.specs.Joinable.{Joinable}
 use Rattle.pool.specs.Lent.{lent}
 use Rattle.pool.specs.Pair.{operationOf}
@@ -224,6 +225,7 @@ module _ (m : Mem) (i j : ℕ) (serve : refusal (readsIn m) (Two Copy i j) ≡ n
               (kept-cells k)
               ∙ sym (served-step 3 (2 ∷ 2 ∷ []) lent (Two Copy i j) m s serve),
           kept-lens k,
+          unspoilt-mark j 0 is' (turned .unspoilt),
         ),
       )
 
@@ -281,6 +283,7 @@ module _ (o : Operation) (m : Mem) (i j : ℕ) (serve : refusal (readsIn m) (Two
               (kept-cells k)
               ∙ sym (served-step 3 (2 ∷ 2 ∷ []) lent (Two (Combine o) i j) m s serve),
           kept-lens k,
+          unspoilt-mark j 0 is' (c .unspoilt),
         ),
       )
 

@@ -1,6 +1,6 @@
 -- What preparing writes, from the words of each slice to the state. Assumes nothing.
 use mathlib.Core.Path.{_≡_, refl, sym, ap, _∙_, subst}
-use mathlib.Core.Bool.{Bool, false, _&&_, _||_, and-false}
+use mathlib.Core.Bool.{Bool, false, _&&_, _||_}
 use mathlib.Core.List.{List}
 use mathlib.Core.Logic.{_⊎_, inl, inr}
 use Prim.Native.Nat.{ℕ, _+_, _-_, _*_, _<_, _≤_}
@@ -8,17 +8,24 @@ use native.Mathlib.Omega.{arith}
 use lib.Dec.{ltb, leb}
 use lib.ListN.{length, getD, set, length-set}
 use lib.Seq.{getD-set-same, getD-set-other, length-take-le}
-use borrow.Author.Tests.{lt-ltb, le-ltb, le-leb, lt-leb}
+use borrow.Author.Tests.{lt-ltb, le-ltb, le-leb, lt-leb, ltb-true}
 use borrow.Rule.Slice.PartMut.{putMid, same-len-mid}
-use Rattle.floats.specs.Value.{far}
+use Rattle.floats.specs.Value.{isFinite, far}
+use Rattle.floats.proofs.Finite.{finite-far, small-finite}
+use Rattle.floats.proofs.Words.{on-case}
 use Rattle.bitset.specs.Set.{bitOf}
-use Rattle.bitset.proofs.Digits.{is-or-not}
+use Rattle.bitset.proofs.Digits.{lt-or-le, is-or-not}
+use Rattle.bitset.proofs.Every.{and-both}
 use Rattle.bitset.proofs.Parts.{bit-put}
-use Rattle.nodes.specs.Layout.{st, wordOf, countPlace, head, tops, masksLength, bookLength}
+use Rattle.nodes.specs.State.{St, wide}
+use Rattle.nodes.specs.Layout.{st, wordOf, countPlace, head, tops, slotsLength, masksLength, bookLength, inside}
 use Rattle.nodes.specs.Range.{In}
-use Rattle.nodes.proofs.Places.{wide-top, word-top}
+use Rattle.nodes.proofs.Places.{wide-top, word-top, word-cell, word-lt, spread}
 use Rattle.nodes.proofs.States.{st-slot, st-kid, st-val}
+use Rattle.means.specs.Level.{Same}
 use Rattle.means.specs.Prepared.{Ready}
+use Rattle.means.specs.Unspoilt.{Unspoilt}
+use Rattle.means.proofs.Unspoilt.{still-equal}
 use Rattle.pool.specs.Runs.{Run, Emptied, Freed}
 use Rattle.pool.proofs.Book.{st-count, st-tag, st-stack, st-mark}
 
@@ -70,21 +77,23 @@ module _ (ws ys : List ℕ) (a n : ℕ) (fits : a + n ≤ length ws) (long : len
   pub off-here : (k : ℕ) → 64 * a ≤ k → k < 64 * (a + n) → bitOf (putMid a n ws ys) k ≡ false
   off-here k l h = put-off k ∙ kept-none k l h
 
-  -- a bit that was off stays off
-  pub off-still : (k : ℕ) → bitOf ws k ≡ false → bitOf (putMid a n ws ys) k ≡ false
-  unfolding kept
-  off-still k e = put-off k ∙ rw e (and-false (ltb k (64 * a) || leb (64 * (a + n)) k))
+  pub off-else : (k : ℕ) → (k < 64 * a) ⊎ (64 * (a + n) ≤ k) → bitOf (putMid a n ws ys) k ≡ bitOf ws k
+  off-else k h = put-off k ∙ sym (kept-all k h)
 
 -- first the 64 child words of the tops, then their 64 value words
 pub emptied : (n : ℕ) (ws ys zs : List ℕ) → length ws ≡ masksLength n → length ys ≡ 64 → length zs ≡ 64 → ((i : ℕ) → bitOf ys i ≡ false) → ((i : ℕ) → bitOf zs i ≡ false)
-    → Emptied n (putMid (64 + n) (128 + n - (64 + n)) (putMid 0 64 ws ys) zs)
+    → Emptied n ws (putMid (64 + n) (128 + n - (64 + n)) (putMid 0 64 ws ys) zs)
 emptied n ws ys zs h a b p q =
     let d = 128 + n - (64 + n) in
     let e : 64 ≡ d = omega arith in
     let l : length (putMid 0 64 ws ys) ≡ length ws = same-len-mid 0 64 ws ys (a ∙ sym (length-take-le 64 ws (omega arith))) in
+    let first = off-else ws ys 0 64 (omega arith) a p in
+    let second = off-else (putMid 0 64 ws ys) zs (64 + n) d (omega arith) (b ∙ e) q in
     record {
-      kids = λ i m. off-still (putMid 0 64 ws ys) zs (64 + n) d (omega arith) (b ∙ e) q i (off-here ws ys 0 64 (omega arith) a p i (omega arith) (omega arith));
+      kids = λ i m. second i (inl (omega arith)) ∙ off-here ws ys 0 64 (omega arith) a p i (omega arith) (omega arith);
       vals = λ i m. off-here (putMid 0 64 ws ys) zs (64 + n) d (omega arith) (b ∙ e) q (64 * (64 + n) + i) (omega arith) (omega arith);
+      cell-kids = λ i m l. second i (inl (omega arith)) ∙ first i (inr (omega arith));
+      cell-vals = λ i m. second (64 * (64 + n) + i) (inr (omega arith)) ∙ first (64 * (64 + n) + i) (inr (omega arith));
     }
 
 -- ---- the book: the marks, the use marks, the stack, and the count
@@ -106,8 +115,8 @@ freed n {l₀} {l₁} {l₂} {l₃} h a b c =
 pub top : (n t k : ℕ) → t < 8 → k < 512 → In n t k
 top n t k ht hk = record { node = omega arith; slot = omega (arith, wide-top t ht) }
 
-pub ready : (n : ℕ) {slots₀ slots masks book : List ℕ} (w : ℕ) → w ≡ far → Run 0 tops (λ i. w) slots₀ slots → Emptied n masks → Freed n book → Ready n (st n slots masks book)
-ready n {slots₀} {slots} {masks} {book} w e r m b =
+pub ready : (n : ℕ) {slots₀ slots masks₀ masks book : List ℕ} (w : ℕ) → w ≡ far → Run 0 tops (λ i. w) slots₀ slots → Emptied n masks₀ masks → Freed n book → Ready n (st n slots masks book)
+ready n {slots = slots} {masks = masks} {book = book} w e r m b =
     record {
       all-free = st-count n slots masks book ∙ b .count;
       placed = λ i h. st-stack n slots masks book i h ∙ b .stack i h;
@@ -120,3 +129,32 @@ ready n {slots₀} {slots} {masks} {book} w e r m b =
   where
     low : (t k : ℕ) → t < 8 → k < 512 → wordOf t k < tops
     low t k ht hk = omega (arith, word-top t k ht)
+
+-- the slots of the cells are as they were
+pub cells-kept : (n w : ℕ) {slots₀ slots masks₀ masks : List ℕ} (book₀ book : List ℕ) → Run 0 tops (λ i. w) slots₀ slots → Emptied n masks₀ masks
+    → (x : ℕ) → 8 ≤ x → Same (st n slots₀ masks₀ book₀) (st n slots masks book) x
+unfolding st
+cells-kept n w {slots₀} {slots} {masks₀} {masks} book₀ book r m x h k =
+    record {
+      slot = same 0 (λ i. getD slots₀ i 0) (λ i. getD slots i 0) (λ i a b. sym (r .other i (inr a)));
+      kid = same false (bitOf masks₀) (bitOf masks) (λ i a b. sym (m .cell-kids i a (omega arith)));
+      val = same false (λ i. bitOf masks₀ (64 * (64 + n) + i)) (λ i. bitOf masks (64 * (64 + n) + i)) (λ i a b. sym (m .cell-vals i a));
+    }
+  where
+    same : {A : Type 0} (d : A) (f f' : ℕ → A) → ((i : ℕ) → tops ≤ i → i < slotsLength n → f i ≡ f' i) → spread n d f x k ≡ spread n d f' x k
+    same d f f' e = on-case (inside n x k)
+        (λ t.
+        let o = and-both (ltb x (8 + n)) (ltb k (wide x)) t in
+        rw t (e (wordOf x k) (omega (arith, word-cell x k h)) (word-lt (record { node = ltb-true x (8 + n) (o .0); slot = ltb-true k (wide x) (o .1) }))))
+        (λ t. rw t refl)
+
+-- no slot is spoilt: one of a top holds +far, past the last of them the state reads 0, and those of the cells are as they were
+pub prepared-unspoilt : {s : St} (n : ℕ) (slots masks book : List ℕ) → Ready n (st n slots masks book) → ((x : ℕ) → 8 ≤ x → Same s (st n slots masks book) x) → Unspoilt s (st n slots masks book)
+unfolding st
+prepared-unspoilt n slots masks book r c x k = elim (lt-or-le x 8) [
+  | inl h ↦ inr (elim (lt-or-le k 512) [
+    | inl l ↦ ap isFinite (r .all-far x k h l) ∙ finite-far
+    | inr l ↦ rw (lt-ltb x (8 + n) (omega arith), lt-ltb x 8 h, le-ltb k 512 l) (small-finite 0 (omega arith))
+  ])
+  | inr h ↦ inl (still-equal (c x h k))
+]

@@ -174,7 +174,7 @@ change-says t m n h i l serve m' k is =
     let w : Worked m s i l t = worked m s i l t (served-given m (One i (actOf t)) serve) in
     let after : st n (m' .slots) (m' .masks) (m' .book) ≡ poolOf m' = is-pool m' n (λ y a b d. h y (a ∙ k .slots) (b ∙ k .masks) (d ∙ k .book)) z in
     let r = turns m m' i l (actOf t) serve k (markOf t (poolOf m .mark i)) (w .mark) (workS t (cellsOf m) i (poolOf m)) (sym after ∙ is ∙ same (is-cells m n h z) (is-pool m n h z)) s (w .turned) (w .does) in
-    (done, refl, rw (serve, task-turns t i m) (refl, r .0, r .1, r .2))
+    (done, refl, rw (serve, task-turns t i m) (refl, r .0, r .1, r .2, r .3))
   where
     same : {a : St} → n ≡ cellsOf m → a ≡ poolOf m → changeS t n i a ≡ markS i (markOf t (poolOf m .mark i)) (workS t (cellsOf m) i (poolOf m))
     same e d = ap₂ (λ (j : ℕ) (s : St). changeS t j i s) e d

@@ -29,13 +29,14 @@ use Rattle.nodes.proofs.Paths.{need-insert, need-remove}
 use Rattle.nodes.specs.Remove.{removeM}
 use Rattle.nodes.specs.Test.{soundB}
 use Rattle.means.specs.Level.{levels, Turned}
-use Rattle.means.specs.Mem.{Mem, lensOf, cellsOf, fits, poolOf, SoundMem, seatOf, stateOf, walk, whole, linked, readsIn}
+use Rattle.means.specs.Unspoilt.{Unspoilt}
+use Rattle.means.specs.Mem.{Mem, lensOf, cellsOf, fits, poolOf, SoundMem, seatOf, stateOf, walk, whole, linked, readsIn, UnspoiltMem}
 use Rattle.means.proofs.Memory.{fitting, mem-sound, seat-is}
 use Rattle.means.proofs.SeatTurn.{turn-sound, turn-seats}
 use Rattle.means.proofs.Points.{voxel-alike, insert-same, remove-same}
 use Rattle.means.proofs.Insert.{insert-right}
 use Rattle.means.proofs.Remove.{remove-right}
-use Rattle.means.proofs.Loose.{LooseS, loose-insert, loose-remove, loose-mem}
+use Rattle.means.proofs.Unspoilt.{unspoilt-mark, insert-unspoilt, remove-unspoilt}
 use Rattle.pool.specs.Lent.{lent}
 use Rattle.pool.specs.Answers.{Says, codeOf, blockedE, insertBlocked, removeBlocked}
 use Rattle.pool.specs.Guard.{orNone}
@@ -64,7 +65,7 @@ module _ {m m' : Mem} (k : Kept m m') where
 
 module _ (m m' : Mem) (i : ℕ) (l : i < 8) (x : Act) (serve : refusal (readsIn m) (One i x) ≡ none) (k : Kept m m') (mk : ℕ) (two : mk < 2) (r : St) (is : poolOf m' ≡ markS i mk r)
     (s : SoundMem m) {g : Node (levels 2)} (a : Turned (cellsOf m) 2 i (poolOf m) r g) (does : act 3 (2 ∷ 2 ∷ []) x (seatOf m i) .1 ≡ record { grid = g; filled = eqb mk 1 }) where
-  pub turns : SoundMem m' × (stateOf m' ≡ step 3 (2 ∷ 2 ∷ []) (stateOf m) (One i x) .1) × (lensOf m' ≡ lensOf m)
+  pub turns : SoundMem m' × (stateOf m' ≡ step 3 (2 ∷ 2 ∷ []) (stateOf m) (One i x) .1) × (lensOf m' ≡ lensOf m) × UnspoiltMem m m'
   unfolding served
   turns = (
     turn-sound m m' s i l mk two a (kept-cells k) (kept-fits k ∙ s .0) is,
@@ -72,6 +73,7 @@ module _ (m m' : Mem) (i : ℕ) (l : i < 8) (x : Act) (serve : refusal (readsIn 
         (turn-seats m m' s i l mk two a (kept-cells k) (kept-fits k ∙ s .0) is ∙ ap (put (seatOf m) i) (sym does)) (kept-cells k)
         ∙ sym (served-step 3 (2 ∷ 2 ∷ []) lent (One i x) m s serve),
     kept-lens k,
+    unspoilt-mark i mk is (a .unspoilt),
   )
 
 -- ---- insert and remove: the tests after the walk
@@ -95,16 +97,16 @@ module _ (m : Mem) (i : ℕ) (l : i < 8) (p : Point) (fit : fits m ≡ true) whe
   pub remove-refusal : refusal (readsIn m) (One i (Remove p)) ≡ orNone (blockedE (cellsOf m) (poolOf m) (floated (walk m i p)) (needRemoveR (walk m i p)))
   remove-refusal = rw (fit, lt-leb 8 i l) (blocked-is (cellsOf m) (poolOf m) (walk m i p) (needRemoveR (walk m i p)))
 
--- an insert or a remove that nothing refuses: on a sound pool the rule, on any other each slot's word as before or finite
+-- an insert or a remove that nothing refuses: on a sound pool the rule, on any other no slot is spoilt
 module _ (m m' : Mem) (i : ℕ) (l : i < 8) (x : Act) (fit : fits m ≡ true) (serve : refusal (readsIn m) (One i x) ≡ none) (k : Kept m m') (r : St)
-    (is : poolOf m' ≡ markS i 0 r) (h : LooseS (poolOf m) r) {g : Node (levels 2)} (a : SoundMem m → Turned (cellsOf m) 2 i (poolOf m) r g)
+    (is : poolOf m' ≡ markS i 0 r) (h : Unspoilt (poolOf m) r) {g : Node (levels 2)} (a : SoundMem m → Turned (cellsOf m) 2 i (poolOf m) r g)
     (does : SoundMem m → act 3 (2 ∷ 2 ∷ []) x (seatOf m i) .1 ≡ record { grid = g; filled = false }) where
   edits : (b : Bool) → soundB (cellsOf m) (poolOf m) ≡ b → Keeps 3 (2 ∷ 2 ∷ []) lent (cond b (turn done) loose) (One i x) m done m'
   edits true e =
       let s = mem-sound m fit e in
       let t = turns m m' i l x serve k 0 (omega arith) r is s (a s) (does s) in
-      (refl, t .0, t .1, t .2)
-  edits false e = (refl, kept-lens k, loose-mem m m' fit (kept-lens k) i 0 r is h)
+      (refl, t .0, t .1, t .2, t .3)
+  edits false e = (refl, kept-lens k, unspoilt-mark i 0 is h)
 
 module _ (m m' : Mem) (i : ℕ) (l : i < 8) (p : Point) (fit : fits m ≡ true) (k : Kept m m') where
   pub insert-says : (w : ℕ) → isFinite w ≡ true → refusal (readsIn m) (One i (Insert p w)) ≡ none
@@ -115,7 +117,7 @@ module _ (m m' : Mem) (i : ℕ) (l : i < 8) (p : Point) (fit : fits m ≡ true) 
         done,
         refl,
         rw serve
-            (edits m m' i l (Insert p w) fit serve k (insertM 3 (2 ∷ 2 ∷ []) (cellsOf m) p w i (poolOf m)) is (loose-insert (fitting m fit .most) w f 3 (2 ∷ 2 ∷ []) p i (poolOf m))
+            (edits m m' i l (Insert p w) fit serve k (insertM 3 (2 ∷ 2 ∷ []) (cellsOf m) p w i (poolOf m)) is (insert-unspoilt (fitting m fit .most) w f 3 (2 ∷ 2 ∷ []) p i (poolOf m))
             (λ s. insert-right (cellsOf m) p w f 2 (poolOf m) i (s .1) (l, refl) need) (λ s. rw (seat-is m s i l) refl) (soundB (cellsOf m) (poolOf m)) refl),
       )
 
@@ -127,7 +129,7 @@ module _ (m m' : Mem) (i : ℕ) (l : i < 8) (p : Point) (fit : fits m ≡ true) 
         done,
         refl,
         rw serve
-            (edits m m' i l (Remove p) fit serve k (removeM 3 (2 ∷ 2 ∷ []) (cellsOf m) p i (poolOf m)) is (loose-remove (fitting m fit .most) 3 (2 ∷ 2 ∷ []) p i (poolOf m))
+            (edits m m' i l (Remove p) fit serve k (removeM 3 (2 ∷ 2 ∷ []) (cellsOf m) p i (poolOf m)) is (remove-unspoilt (fitting m fit .most) 3 (2 ∷ 2 ∷ []) p i (poolOf m))
             (λ s. remove-right (cellsOf m) p 2 (poolOf m) i (s .1) (l, refl) need) (λ s. rw (seat-is m s i l) refl) (soundB (cellsOf m) (poolOf m)) refl),
       )
 

@@ -28,7 +28,9 @@ use Rattle.nodes.specs.Walk.{Reach, active, hidden, broken, reachAt, reachS, fl
 use Rattle.nodes.specs.declared.walk.Ends.{Ends}
 use Rattle.nodes.proofs.Places.{word-top}
 use Rattle.nodes.proofs.States.{st-kid, st-val}
-use Rattle.means.specs.Mem.{Mem, cellsOf, poolOf, SoundMem, seatOf, stateOf, lensOf, walk, readsIn}
+use Rattle.means.specs.Level.{Same}
+use Rattle.means.specs.Unspoilt.{Unspoilt}
+use Rattle.means.specs.Mem.{Mem, cellsOf, poolOf, SoundMem, seatOf, stateOf, lensOf, walk, readsIn, UnspoiltMem}
 use Rattle.means.specs.Prepared.{Ready}
 use Rattle.means.proofs.Memory.{fitting, seat-is}
 use Rattle.means.proofs.Prepared.{ready-sound, ready-fresh}
@@ -41,7 +43,7 @@ use Rattle.pool.proofs.Book.{st-count, st-mark}
 use Rattle.pool.proofs.Checks.{passed, failed}
 use Rattle.pool.proofs.Guards.{plain-is, served-seat, served-sound}
 use Rattle.pool.proofs.Promises.{Counted, counted-some, is-fit, is-cells, is-pool, is-walk}
-use Rattle.pool.proofs.Ready.{top}
+use Rattle.pool.proofs.Ready.{top, prepared-unspoilt}
 
 -- ---- preparing: m is the memory before it, and m' after it
 
@@ -56,9 +58,10 @@ ready-seat m r t = on-case (ltb t 8)
     (λ e. rw e refl)
 
 pub prepare-says : (m m' : Mem) (n : ℕ) → Counted n m → (n ≡ 0 → ⊥) → Ready n (st n (m' .slots) (m' .masks) (m' .book))
+    → ((x : ℕ) → 8 ≤ x → Same (st n (m .slots) (m .masks) (m .book)) (st n (m' .slots) (m' .masks) (m' .book)) x)
     → length (m' .slots) ≡ length (m .slots) → length (m' .masks) ≡ length (m .masks) → length (m' .book) ≡ length (m .book) → Says codeOf Prepare m 0 m'
 unfolding step play served
-prepare-says m m' n h z r a b c = (done, refl, rw (is-fit m n h z) (refl, sound, state, lens))
+prepare-says m m' n h z r w a b c = (done, refl, rw (is-fit m n h z) (refl, sound, state, lens, unspoilt))
   where
     -- the lengths are the same, and so is the number of cells
     after : Counted n m'
@@ -77,6 +80,9 @@ prepare-says m m' n h z r a b c = (done, refl, rw (is-fit m n h z) (refl, sound,
 
     lens : lensOf m' ≡ lensOf m
     lens = rw (a, b, c) refl
+
+    unspoilt : UnspoiltMem m m'
+    unspoilt = subst (λ (s : St). Unspoilt s (poolOf m')) (is-pool m n h z) (subst (Unspoilt (st n (m .slots) (m .masks) (m .book))) (is-pool m' n after z) (prepared-unspoilt n (m' .slots) (m' .masks) (m' .book) r w))
 
 -- ---- both masks of a top are empty exactly where every slot of it is hidden
 

@@ -1,22 +1,22 @@
--- The calls on whole seats of lent memory, as later calls see them: what seats proves over any memory (SeatRules), at this one. That a call was accepted is the only
--- premise, except where a word is said; `zero-accepts` and `said-same` carry the theorems to what the calls for C answer. Assumes nothing.
+-- The calls on one whole seat of lent memory, as later calls see them: what seats proves over any memory (SeatRules), at this one. That a call was accepted is the only
+-- premise, but of `others-stay` and `others-lookup`, which are of any call on a sound pool; `zero-accepts` and `said-same` carry the theorems to what the calls for C
+-- answer. Assumes nothing.
 use mathlib.Core.Path.{_≡_, refl, sym, _∙_, ap, subst}
-use mathlib.Core.Bool.{true, false, cond}
+use mathlib.Core.Bool.{true, false}
 use mathlib.Core.List.{[], _∷_}
 use mathlib.Core.Option.{Option, none, some}
-use Prim.Native.Nat.{ℕ, _+_, _<_, _≤_}
+use Prim.Native.Nat.{ℕ, _+_, _<_}
 use native.Mathlib.Omega.{arith}
-use lib.Dec.{leb}
 use Rattle.floats.specs.Test.{passes}
 use Rattle.floats.specs.Value.{negative, negated}
 use Rattle.floats.specs.declared.Test.{Test}
 use Rattle.grid.specs.Geometry.{Point}
 use Rattle.grid.specs.SignFill.{fillSigns}
 use Rattle.grid.specs.Voxel.{signAt}
-use Rattle.grid.specs.Whole.{isEmpty, hasHollow}
+use Rattle.grid.specs.Whole.{hasHollow}
 use Rattle.grid.proofs.Whole.{through, uncut}
-use Rattle.seats.specs.Call.{Lookup, Sign, Fill, Cut, Clear, Prune, Flip, FillSigns, IsEmpty, Copy, Call, One, Two, names, Answer, refused, found, negativeIs, emptyIs, done}
-use Rattle.seats.specs.Promise.{among, Verdict, turn, grants, refuseOr, Keeps, Promise, Turns, Answers, Counts, LooksAlike}
+use Rattle.seats.specs.Call.{Lookup, Sign, Fill, Cut, Clear, Prune, Flip, FillSigns, IsEmpty, Call, One, names, Answer, found, negativeIs, done}
+use Rattle.seats.specs.Promise.{among, Verdict, turn, grants, refuseOr, Keeps, Promise, Turns, Answers, Counts, LooksAlike, Unsigned, Cleared}
 use Rattle.seats.specs.Refusal.{refusal}
 use Rattle.seats.specs.Seat.{fresh, reached}
 use Rattle.seats.proofs.Refusal.{refusal-number}
@@ -26,7 +26,8 @@ use Rattle.means.specs.Mem.{Mem, SoundMem, seatOf, stateOf, readsIn}
 use Rattle.pool.specs.Answers.{Says, codeOf}
 use Rattle.pool.specs.Lent.{lent}
 
--- the call c is accepted on m and leaves m'; r is an answer to it; k free cells are counted; lookups in seat i' of m' are answered as in seat i of m
+-- the call c is accepted on m and leaves m'; r is an answer to it; k free cells are counted; lookups in seat i' of m' are answered as in seat i of m; seat i has no
+-- sign; it answers as after Clear
 abbrev pub Done : Call → Mem → Mem → Type 0
 Done c m m' = Turns 3 (2 ∷ 2 ∷ []) lent c m m'
 
@@ -38,6 +39,12 @@ Counted m k = Counts 3 (2 ∷ 2 ∷ []) lent m k
 
 abbrev pub Alike : Mem → ℕ → Mem → ℕ → Type 0
 Alike m i m' i' = LooksAlike 3 (2 ∷ 2 ∷ []) lent m i m' i'
+
+abbrev pub Signless : Mem → ℕ → Type 0
+Signless m i = Unsigned 3 (2 ∷ 2 ∷ []) lent m i
+
+abbrev pub Emptied : Mem → ℕ → Type 0
+Emptied m i = Cleared 3 (2 ∷ 2 ∷ []) lent m i
 
 -- ---- from what is answered in C
 
@@ -94,38 +101,6 @@ fill-signs-empty = rule.fill-signs-empty 3 (2 ∷ 2 ∷ []) lent
 pub fill-signs-free : (i : ℕ) (m m' : Mem) → Done (One i FillSigns) m m' → (k k' : ℕ) → Counted m k → Counted m' k' → k' ≡ k
 fill-signs-free = rule.fill-signs-free 3 (2 ∷ 2 ∷ []) lent
 
--- ---- copy seat i to seat j
-
--- the target's grid is the source's, slot by slot, hidden values too; and it is not marked
-pub copy-target : (i j : ℕ) (m m' : Mem) → Done (Two Copy i j) m m' → (seatOf m' j .grid ≡ seatOf m i .grid) × (seatOf m' j .filled ≡ false)
-copy-target = rule.copy-target 3 (2 ∷ 2 ∷ []) lent
-
--- the other seats, the source among them, are as before
-pub copy-others : (i j : ℕ) (m m' : Mem) → Done (Two Copy i j) m m' → (a : ℕ) → (a ≡ j → ⊥) → seatOf m' a ≡ seatOf m a
-copy-others = rule.copy-others 3 (2 ∷ 2 ∷ []) lent
-
--- a lookup in the target is answered as it was in the source
-pub copy-lookup : (i j : ℕ) (m m' : Mem) → Done (Two Copy i j) m m' → Alike m i m' j
-copy-lookup = rule.copy-lookup 3 (2 ∷ 2 ∷ []) lent
-
--- and in every other seat as before
-pub copy-others-lookup : (i j : ℕ) (m m' : Mem) → Done (Two Copy i j) m m' → (a : ℕ) → (a ≡ j → ⊥) → Alike m a m' a
-copy-others-lookup = rule.copy-others-lookup 3 (2 ∷ 2 ∷ []) lent
-
--- once both are filled, they have the same sign at every voxel
-pub copy-sign : (i j : ℕ) (m m' : Mem) → Done (Two Copy i j) m m' → (m₂ m₃ : Mem) → Done (One i FillSigns) m' m₂ → Done (One j FillSigns) m₂ m₃
-    → (p : Point) (r r' : Answer) → Asked (One i (Sign p)) m₃ r → Asked (One j (Sign p)) m₃ r' → r' ≡ r
-copy-sign = rule.copy-sign 3 (2 ∷ 2 ∷ []) lent
-
--- it takes as many cells as the source reaches
-pub copy-free : (i j : ℕ) (m m' : Mem) → Done (Two Copy i j) m m' → (k k' : ℕ) → Counted m k → Counted m' k' → k' + reached 3 (2 ∷ 2 ∷ []) (seatOf m i) ≡ k
-copy-free = rule.copy-free 3 (2 ∷ 2 ∷ []) lent
-
--- on a sound pool, with two of the seats and an empty target: 9 exactly if fewer cells are free than the source reaches
-pub copy-needs : (i j : ℕ) → i < 8 → j < 8 → (j ≡ i → ⊥) → (m : Mem) → SoundMem m → isEmpty 3 (2 ∷ 2 ∷ []) (seatOf m j .grid) ≡ true
-    → (k : ℕ) → Counted m k → (r : Answer) → Asked (Two Copy i j) m r → r ≡ cond (leb (reached 3 (2 ∷ 2 ∷ []) (seatOf m i)) k) done (refused 9)
-copy-needs = rule.copy-needs 3 (2 ∷ 2 ∷ []) lent
-
 -- ---- flip
 
 -- a lookup shows the value with the other sign bit, and nothing where there was nothing
@@ -163,8 +138,13 @@ pub prune-fill-signs : (i : ℕ) (m m' : Mem) → Done (One i Prune) m m'
     → (hasHollow 3 (2 ∷ 2 ∷ []) (seatOf m' i .grid) ≡ false) × ((r : Answer) → Asked (One i FillSigns) m' r → r ≡ done)
 prune-fill-signs = rule.prune-fill-signs 3 (2 ∷ 2 ∷ []) lent
 
--- no cell is taken
-pub prune-free : (i : ℕ) (m m' : Mem) → Done (One i Prune) m m' → (k k' : ℕ) → Counted m k → Counted m' k' → k ≤ k'
+-- it is unmarked
+pub prune-unfilled : (i : ℕ) (m m' : Mem) → Done (One i Prune) m m' → Signless m' i
+prune-unfilled = rule.prune-unfilled 3 (2 ∷ 2 ∷ []) lent
+
+-- what the seat does not reach any more is free again
+pub prune-free : (i : ℕ) (m m' : Mem) → Done (One i Prune) m m' → (k k' : ℕ) → Counted m k → Counted m' k'
+    → k' + reached 3 (2 ∷ 2 ∷ []) (seatOf m' i) ≡ k + reached 3 (2 ∷ 2 ∷ []) (seatOf m i)
 prune-free = rule.prune-free 3 (2 ∷ 2 ∷ []) lent
 
 -- ---- cut by the test x
@@ -179,14 +159,22 @@ pub cut-fill-signs : (i : ℕ) (x : Test) (m m' : Mem) → Done (One i (Cut x)) 
     → (hasHollow 3 (2 ∷ 2 ∷ []) (seatOf m' i .grid) ≡ false) × ((r : Answer) → Asked (One i FillSigns) m' r → r ≡ done)
 cut-fill-signs = rule.cut-fill-signs 3 (2 ∷ 2 ∷ []) lent
 
--- no cell is taken
-pub cut-free : (i : ℕ) (x : Test) (m m' : Mem) → Done (One i (Cut x)) m m' → (k k' : ℕ) → Counted m k → Counted m' k' → k ≤ k'
+-- it is unmarked
+pub cut-unfilled : (i : ℕ) (x : Test) (m m' : Mem) → Done (One i (Cut x)) m m' → Signless m' i
+cut-unfilled = rule.cut-unfilled 3 (2 ∷ 2 ∷ []) lent
+
+-- what the seat does not reach any more is free again
+pub cut-free : (i : ℕ) (x : Test) (m m' : Mem) → Done (One i (Cut x)) m m' → (k k' : ℕ) → Counted m k → Counted m' k'
+    → k' + reached 3 (2 ∷ 2 ∷ []) (seatOf m' i) ≡ k + reached 3 (2 ∷ 2 ∷ []) (seatOf m i)
 cut-free = rule.cut-free 3 (2 ∷ 2 ∷ []) lent
 
--- ---- fill with the value v, clear: every lookup shows it, or nothing; what the seat reached is free again
+-- ---- fill with the value v, clear: every lookup shows it, or nothing; the seat is unmarked; what it reached is free again
 
 pub fill-lookup : (i v : ℕ) (m m' : Mem) → Done (One i (Fill v)) m m' → (p : Point) (r : Answer) → Asked (One i (Lookup p)) m' r → r ≡ found (some v)
 fill-lookup = rule.fill-lookup 3 (2 ∷ 2 ∷ []) lent
+
+pub fill-unfilled : (i v : ℕ) (m m' : Mem) → Done (One i (Fill v)) m m' → Signless m' i
+fill-unfilled = rule.fill-unfilled 3 (2 ∷ 2 ∷ []) lent
 
 pub fill-free : (i v : ℕ) (m m' : Mem) → Done (One i (Fill v)) m m' → (k k' : ℕ) → Counted m k → Counted m' k' → k' ≡ k + reached 3 (2 ∷ 2 ∷ []) (seatOf m i)
 fill-free = rule.fill-free 3 (2 ∷ 2 ∷ []) lent
@@ -195,11 +183,9 @@ fill-free = rule.fill-free 3 (2 ∷ 2 ∷ []) lent
 pub clear-seat : (i : ℕ) (m m' : Mem) → Done (One i Clear) m m' → seatOf m' i ≡ fresh 3 (2 ∷ 2 ∷ [])
 clear-seat = rule.clear-seat 3 (2 ∷ 2 ∷ []) lent
 
-pub clear-lookup : (i : ℕ) (m m' : Mem) → Done (One i Clear) m m' → (p : Point) (r : Answer) → Asked (One i (Lookup p)) m' r → r ≡ found none
-clear-lookup = rule.clear-lookup 3 (2 ∷ 2 ∷ []) lent
-
-pub clear-empty : (i : ℕ) (m m' : Mem) → Done (One i Clear) m m' → (r : Answer) → Asked (One i IsEmpty) m' r → r ≡ emptyIs true
-clear-empty = rule.clear-empty 3 (2 ∷ 2 ∷ []) lent
+-- no lookup in it shows anything, it is empty, and it has no sign
+pub clear-clears : (i : ℕ) (m m' : Mem) → Done (One i Clear) m m' → Emptied m' i
+clear-clears = rule.clear-clears 3 (2 ∷ 2 ∷ []) lent
 
 pub clear-free : (i : ℕ) (m m' : Mem) → Done (One i Clear) m m' → (k k' : ℕ) → Counted m k → Counted m' k' → k' ≡ k + reached 3 (2 ∷ 2 ∷ []) (seatOf m i)
 clear-free = rule.clear-free 3 (2 ∷ 2 ∷ []) lent

@@ -2,7 +2,7 @@
 use mathlib.Core.List.{[], _∷_}
 use mathlib.Core.Path.{refl}
 use Rattle.seats.specs.Promise.{Memory}
-use Rattle.means.specs.Mem.{Mem, lensOf, sizeOf, SoundMem, stateOf, readsIn, lookupIn, negativeIn, LooseMem}
+use Rattle.means.specs.Mem.{Mem, lensOf, sizeOf, SoundMem, stateOf, readsIn, lookupIn, negativeIn, UnspoiltMem}
 use Rattle.means.proofs.Memory as law
 
 abbrev pub lent : Memory 3 (2 ∷ 2 ∷ [])
@@ -16,7 +16,7 @@ lent =
       reads = readsIn;
       lookupAt = lookupIn;
       negativeAt = negativeIn;
-      Loose = LooseMem;
+      Unspoilt = UnspoiltMem;
       is-sound = law.mem-sound;
       reads-is = law.reads-is;
       lookup-is = law.lookup-is;

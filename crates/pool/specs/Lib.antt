@@ -1,6 +1,7 @@
 -- What the contracts of this crate cite.
 pub mod Runs
 pub mod Slots
+pub mod Own
 pub mod Lent
 pub mod Answers
 pub mod Guard

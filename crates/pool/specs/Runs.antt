@@ -14,10 +14,12 @@ pub record Run (lo len : ℕ) (f : ℕ → ℕ) (l₀ l : List ℕ) : Type 0 whe
   pub here : (j : ℕ) → lo ≤ j → j < lo + len → getD l j 0 ≡ f (j - lo)
   pub other : (j : ℕ) → (j < lo) ⊎ (lo + len ≤ j) → getD l j 0 ≡ getD l₀ j 0
 
--- no bit of a top is on: the tops' words are the first, and so are their bits in both masks
-pub record Emptied (n : ℕ) (masks : List ℕ) : Type 0 where
+-- no bit of a top is on, and those of the cells are as before: the tops' words are the first, and so are their bits in both masks
+pub record Emptied (n : ℕ) (masks₀ masks : List ℕ) : Type 0 where
   pub kids : (i : ℕ) → i < tops → bitOf masks i ≡ false
   pub vals : (i : ℕ) → i < tops → bitOf masks (64 * (64 + n) + i) ≡ false
+  pub cell-kids : (i : ℕ) → tops ≤ i → i < 64 * (64 + n) → bitOf masks i ≡ bitOf masks₀ i
+  pub cell-vals : (i : ℕ) → tops ≤ i → bitOf masks (64 * (64 + n) + i) ≡ bitOf masks₀ (64 * (64 + n) + i)
 
 pub record Freed (n : ℕ) (book : List ℕ) : Type 0 where
   pub marks : (t : ℕ) → t < 8 → getD book t 0 ≡ 0

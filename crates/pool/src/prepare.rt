@@ -5,11 +5,11 @@ use nodes::memory::COUNT;
 use nodes::memory::HEAD;
 use nodes::memory::TOP_MASKS;
 use nodes::memory::TOPS;
-ghost use mathlib.Core.Path.{_≡_};
 ghost use Prim.Native.Nat.{ℕ, _+_, _≤_, _<_};
-ghost use lib.ListN.{length, getD};
-ghost use Rattle.nodes.specs.Layout.{Sized, st, tops};
+ghost use lib.ListN.{length};
+ghost use Rattle.nodes.specs.Layout.{Sized, st};
 ghost use Rattle.nodes.specs.Range.{Masked, Booked};
+ghost use Rattle.means.specs.Level.{Same};
 ghost use Rattle.means.specs.Prepared.{Ready};
 ghost use Rattle.pool.specs.Runs.{Run, Emptied, Freed};
 
@@ -40,7 +40,7 @@ fn count_up(ws: &mut [u32], lo: usize, len: usize)
 // No slot of a top is a branch or an active value: the words of the tops stand first among the child masks and first among the value masks.
 fn empty_tops(masks: &mut [u64], n: usize)
     requires { ⌜ Masked n (now masks) ⌝ }
-    ensures { λ _. ⌜ Emptied n (now (masks .exit)) ⌝ }
+    ensures { λ _. ⌜ Emptied n (now (masks .entry)) (now (masks .exit)) ⌝ }
 {
     bitset::zeroes(&mut masks[0..TOP_MASKS]);
     let a = TOP_MASKS + n;
@@ -59,10 +59,11 @@ fn free_all(book: &mut [u32], n: usize)
     book[COUNT] = n as u32;
 }
 
+// Afterwards the pool is ready, and every slot of a cell is as it was.
 pub fn prepare(slots: &mut [u32], masks: &mut [u64], book: &mut [u32], n: usize)
     requires { ⌜ Sized n (now slots) (now masks) (now book) ⌝ }
     ensures ready { λ _. ⌜ Ready n (st n (now (slots .exit)) (now (masks .exit)) (now (book .exit))) ⌝ }
-    ensures kept { λ _. ⌜ ((i : ℕ) → tops ≤ i → getD (now (slots .exit)) i 0 ≡ getD (now (slots .entry)) i 0) ⌝ }
+    ensures kept { λ _. ⌜ ((x : ℕ) → 8 ≤ x → Same (st n (now (slots .entry)) (now (masks .entry)) (now (book .entry))) (st n (now (slots .exit)) (now (masks .exit)) (now (book .exit))) x) ⌝ }
 {
     fill(slots, 0, TOPS, floats::far_word(false));
     empty_tops(masks, n);

@@ -1,14 +1,16 @@
 // The test that a pool is sound. Each mark, each place of the stack, each cell and each slot that counts is looked at, and nothing is trusted: a use mark, a place
 // of the stack and a link are each below the pool's bounds before they are used as a place. The two ends of a link, and those of a place of the stack, have to name each
-// other, so no second pass over the cells is needed. Every call on the whole pool makes this test first, so it is written for speed: slots are tested by groups of 64.
+// other, so no second pass over the cells is needed. Every call on the whole pool makes this test first, so it is written for speed: slots are tested by groups of 64, and so
+// are the cells that no call has had yet.
 use nodes::cells;
 use nodes::geometry::Top;
 use nodes::memory::CELL;
+use nodes::memory::HEAD;
 use nodes::memory::USED;
 use nodes::memory::USED_BY_TOPS;
 ghost use mathlib.Core.Path.{_≡_};
 ghost use mathlib.Core.List.{List};
-ghost use mathlib.Core.Bool.{_&&_};
+ghost use mathlib.Core.Bool.{true, _&&_};
 ghost use Prim.Native.Nat.{ℕ, _+_, _-_, _*_, _^_, _≤_, _<_};
 ghost use lib.Bits.{bitAnd};
 ghost use lib.ListN.{length, getD};
@@ -20,6 +22,7 @@ ghost use Rattle.nodes.specs.Layout.{Sized, st, countPlace};
 ghost use Rattle.nodes.specs.Range.{Slotted, Masked, Booked, In};
 ghost use Rattle.nodes.specs.Test.{forkB, liveB, stackedB, linkB, heldB, cellB, nodeB, soundB};
 ghost use Rattle.pool.specs.Slots.{valueB, branchB, eitherB, group};
+ghost use Rattle.pool.specs.Own.{ownB};
 
 // A word of a slot as a number that may be a cell's.
 fn place(w: u32) -> usize
@@ -50,6 +53,48 @@ fn all_marks(book: &[u32]) -> bool
     true
 }
 
+// Both are true, with no branch.
+fn both(a: bool, b: bool) -> bool
+    ensures { λ r. ⌜ r ≡ a && b ⌝ }
+{
+    a && b
+}
+
+// The 64 cells from p on are free, each at its own place of the stack. There is no way out before the last, so that the machine may test several at once.
+fn own(book: &[u32], n: usize, p: usize) -> bool
+    requires { ⌜ (Booked n (now book)) × (p + 64 ≤ n) ⌝ }
+    ensures { λ r. ⌜ ((slots masks : List ℕ) → r ≡ every (λ i. ownB (st n slots masks (now (book .entry))) (p + i)) 64) ⌝ }
+{
+    let mut ok = true;
+    let mut i = 0;
+    while i < 64 {
+        let c = (p + i) as u32;
+        ok = both(
+            both(book[HEAD + p + i] == c, book[HEAD + n + p + i] == c),
+            ok,
+        );
+        i += 1;
+    }
+    ok
+}
+
+// So many cells, from the first on, are free at their own places of the stack. Preparing leaves them so, and the last ones are handed out first: these are the cells that
+// no call has had yet, but for a last group.
+fn untouched(book: &[u32], n: usize) -> usize
+    requires { ⌜ (Booked n (now book)) × (getD (now book) countPlace 0 ≤ n) ⌝ }
+    ensures { λ r. ⌜ (r ≤ getD (now (book .entry)) countPlace 0) × ((slots masks : List ℕ) (c : ℕ) → c < r → ownB (st n slots masks (now (book .entry))) c ≡ true) ⌝ }
+{
+    let m = cells::count(book);
+    let mut p = 0;
+    while p + 64 <= m {
+        if !own(book, n, p) {
+            return p;
+        }
+        p += 64;
+    }
+    p
+}
+
 // Place i of the stack names a cell whose use mark is i.
 fn stacked(book: &[u32], n: usize, i: usize) -> bool
     requires { ⌜ (Booked n (now book)) × (i < n) ⌝ }
@@ -62,13 +107,13 @@ fn stacked(book: &[u32], n: usize, i: usize) -> bool
     cells::tag(book, c) == i
 }
 
-// Each place of the stack below the count of free cells.
-fn all_stacked(book: &[u32], n: usize) -> bool
-    requires { ⌜ (Booked n (now book)) × (getD (now book) countPlace 0 ≤ n) ⌝ }
+// Each place of the stack below the count of free cells, where those below `from` are known to pass.
+fn all_stacked(book: &[u32], n: usize, from: usize) -> bool
+    requires { ⌜ (Booked n (now book)) × (getD (now book) countPlace 0 ≤ n) × (from ≤ getD (now book) countPlace 0) × ((slots masks : List ℕ) → every (stackedB n (st n slots masks (now book))) from ≡ true) ⌝ }
     ensures { λ r. ⌜ ((slots masks : List ℕ) → r ≡ every (stackedB n (st n slots masks (now (book .entry)))) (getD (now (book .entry)) countPlace 0)) ⌝ }
 {
     let m = cells::count(book);
-    let mut i = 0;
+    let mut i = from;
     while i < m {
         if !stacked(book, n, i) {
             return false;
@@ -138,12 +183,12 @@ fn cell(slots: &[u32], masks: &[u64], book: &[u32], n: usize, c: usize) -> bool
     cells::stacked(book, n, u) == c
 }
 
-// Each cell is free or linked to, as its use mark says.
-fn all_cells(slots: &[u32], masks: &[u64], book: &[u32], n: usize) -> bool
-    requires { ⌜ (Sized n (now slots) (now masks) (now book)) × (getD (now book) countPlace 0 ≤ n) ⌝ }
+// Each cell is free or linked to, as its use mark says, where those below `from` are known to pass.
+fn all_cells(slots: &[u32], masks: &[u64], book: &[u32], n: usize, from: usize) -> bool
+    requires { ⌜ (Sized n (now slots) (now masks) (now book)) × (getD (now book) countPlace 0 ≤ n) × (from ≤ n) × (every (cellB n (st n (now slots) (now masks) (now book))) from ≡ true) ⌝ }
     ensures { λ r. ⌜ r ≡ every (cellB n (st n (now (slots .entry)) (now (masks .entry)) (now (book .entry)))) n ⌝ }
 {
-    let mut c = 0;
+    let mut c = from;
     while c < n {
         if !cell(slots, masks, book, n, c) {
             return false;
@@ -166,13 +211,6 @@ fn link(slots: &[u32], masks: &[u64], book: &[u32], n: usize, x: usize, k: usize
         return false;
     }
     !nodes::memory::val(masks, n, x, k)
-}
-
-// Both are true, with no branch.
-fn both(a: bool, b: bool) -> bool
-    ensures { λ r. ⌜ r ≡ a && b ⌝ }
-{
-    a && b
 }
 
 // The 64 words from place p on are finite values. There is no way out before the last, so that the machine may test several at once.
@@ -270,14 +308,13 @@ fn node(slots: &[u32], masks: &[u64], book: &[u32], n: usize, x: usize) -> bool
     true
 }
 
-// Each slot of each node that counts.
-fn all_nodes(slots: &[u32], masks: &[u64], book: &[u32], n: usize) -> bool
-    requires { ⌜ Sized n (now slots) (now masks) (now book) ⌝ }
-    ensures { λ r. ⌜ r ≡ every (nodeB n (st n (now (slots .entry)) (now (masks .entry)) (now (book .entry)))) (8 + n) ⌝ }
+// Each slot of each node below `to` that counts, where the nodes below `from` are known to pass.
+fn all_nodes(slots: &[u32], masks: &[u64], book: &[u32], n: usize, from: usize, to: usize) -> bool
+    requires { ⌜ (Sized n (now slots) (now masks) (now book)) × (from ≤ to) × (to ≤ 8 + n) × (every (nodeB n (st n (now slots) (now masks) (now book))) from ≡ true) ⌝ }
+    ensures { λ r. ⌜ r ≡ every (nodeB n (st n (now (slots .entry)) (now (masks .entry)) (now (book .entry)))) to ⌝ }
 {
-    let m = 8 + n;
-    let mut x = 0;
-    while x < m {
+    let mut x = from;
+    while x < to {
         if !node(slots, masks, book, n, x) {
             return false;
         }
@@ -297,11 +334,15 @@ pub fn sound(slots: &[u32], masks: &[u64], book: &[u32], n: usize) -> bool
     if !all_marks(book) {
         return false;
     }
-    if !all_stacked(book, n) {
+    let from = untouched(book, n);
+    if !all_stacked(book, n, from) {
         return false;
     }
-    if !all_cells(slots, masks, book, n) {
+    if !all_cells(slots, masks, book, n, from) {
         return false;
     }
-    all_nodes(slots, masks, book, n)
+    if !all_nodes(slots, masks, book, n, 0, 8) {
+        return false;
+    }
+    all_nodes(slots, masks, book, n, 8 + from, 8 + n)
 }

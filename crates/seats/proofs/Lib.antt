@@ -7,8 +7,10 @@ pub mod Promise
 pub mod Runs
 pub mod Chains
 pub mod Asked
+pub mod Turned
 pub mod Rules
 pub mod SeatRules
+pub mod PairRules
 pub mod Table
 pub mod Proper
 pub mod Witness

@@ -10,7 +10,7 @@ use lib.Dec.{leb}
 use Rattle.grid.specs.Node.{put}
 use Rattle.grid.proofs.Places.{put-at}
 use Rattle.seats.specs.Call.{Lookup, Sign, Remove, Insert, Fill, Cut, Clear, Prune, Flip, FillSigns, IsEmpty, Copy, Combine, Call, One, Two, Prepare, Count, names, Answer, refused, found, negativeIs, emptyIs, freeCells, done}
-use Rattle.seats.specs.Promise.{among, Agree, Verdict, refuse, give, turn, loose, Accepted, Memory, grants, refuseOr, verdict, Keeps, Promise}
+use Rattle.seats.specs.Promise.{among, Agree, Verdict, refuse, give, turn, loose, Accepted, Memory, grants, refuseOr, verdict, Keeps, Promise, OneState}
 use Rattle.seats.specs.Refusal.{any, refusal}
 use Rattle.seats.specs.Seat.{Seat, State, prepared, used, free}
 use Rattle.seats.specs.Step.{act, both, readsOf, served, unless, play, step}
@@ -24,18 +24,19 @@ module _ (b : ℕ) (bs : List ℕ) (𝓜 : Memory b bs) where
   abbrev Seats : Type 0
   Seats = ℕ → Seat b bs
 
-  -- ---- two outcomes agree, on any memory: the answer, and the memory or what it stands for
+  -- ---- two outcomes agree, on any memory: the answer always; and the memories, or what they stand for, unless an insert or a remove was accepted on an unsound pool
 
-  keeps-agree : (v : Verdict) (c : Call) (m m' m'' : 𝓜 .Mem) (r r' : Answer) → (v ≡ loose → ⊥) → Keeps b bs 𝓜 v c m r m' → Keeps b bs 𝓜 v c m r' m''
-      → (r ≡ r') × ((m' ≡ m'') ⊎ (𝓜 .state m' ≡ 𝓜 .state m''))
-  keeps-agree (refuse n) c m m' m'' r r' h p q = (p .0 ∙ sym (q .0), inl (p .1 ∙ sym (q .1)))
-  keeps-agree (give a) c m m' m'' r r' h p q = (p .0 ∙ sym (q .0), inl (p .1 ∙ sym (q .1)))
-  keeps-agree (turn a) c m m' m'' r r' h p q = (p .0 ∙ sym (q .0), inr (p .2 ∙ sym (q .2)))
-  keeps-agree loose c m m' m'' r r' h p q = absurd (h refl)
+  keeps-agree : (v : Verdict) (c : Call) (m m' m'' : 𝓜 .Mem) (r r' : Answer) → Keeps b bs 𝓜 v c m r m' → Keeps b bs 𝓜 v c m r' m''
+      → (r ≡ r') × ((m' ≡ m'') ⊎ (OneState b bs 𝓜 m' m'' ⊎ (v ≡ loose)))
+  keeps-agree (refuse n) c m m' m'' r r' p q = (p .0 ∙ sym (q .0), inl (p .1 ∙ sym (q .1)))
+  keeps-agree (give a) c m m' m'' r r' p q = (p .0 ∙ sym (q .0), inl (p .1 ∙ sym (q .1)))
+  keeps-agree (turn a) c m m' m'' r r' p q =
+      (p .0 ∙ sym (q .0), inr (inl (record { sound = p .1; sound' = q .1; state = p .2 ∙ sym (q .2) })))
+  keeps-agree loose c m m' m'' r r' p q = (p .0 ∙ sym (q .0), inr (inr refl))
 
-  pub agree : (c : Call) (m m' m'' : 𝓜 .Mem) (r r' : Answer) → (verdict b bs 𝓜 c m ≡ loose → ⊥) → Promise b bs 𝓜 c m r m' → Promise b bs 𝓜 c m r' m''
-      → (r ≡ r') × ((m' ≡ m'') ⊎ (𝓜 .state m' ≡ 𝓜 .state m''))
-  agree c m m' m'' r r' h p q = keeps-agree (verdict b bs 𝓜 c m) c m m' m'' r r' h p q
+  pub agree : (c : Call) (m m' m'' : 𝓜 .Mem) (r r' : Answer) → Promise b bs 𝓜 c m r m' → Promise b bs 𝓜 c m r' m''
+      → (r ≡ r') × ((m' ≡ m'') ⊎ (OneState b bs 𝓜 m' m'' ⊎ (verdict b bs 𝓜 c m ≡ loose)))
+  agree c m m' m'' r r' p q = keeps-agree (verdict b bs 𝓜 c m) c m m' m'' r r' p q
 
   -- ---- on a sound pool
 

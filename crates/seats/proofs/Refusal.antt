@@ -33,19 +33,19 @@ pub all-pass : (rows : List Row) (r : Reads) (c : Call) → first rows r c ≡ n
 all-pass [] r c e = tt
 all-pass (row ∷ rows) r c e = let h = peel (row .1 r c) (row .0) (first rows r c) e in (h .0, all-pass rows r c (h .1))
 
--- a row that refuses has a number, from 1
-first-number : (rows : List Row) (r : Reads) (c : Call) (n : ℕ) → Each (λ row. 0 < row .0) rows → first rows r c ≡ some n → 0 < n
-first-number [] r c n h e = absurd (not-none n (sym e))
-first-number (row ∷ rows) r c n h e = go (row .1 r c) e (first-number rows r c n (h .1))
+-- what holds of the number of each row whose test holds is so of the number given
+pub first-is : (P : ℕ → Type 0) (rows : List Row) (r : Reads) (c : Call) (n : ℕ) → Each (λ row. row .1 r c ≡ true → P (row .0)) rows → first rows r c ≡ some n → P n
+first-is P [] r c n h e = absurd (not-none n (sym e))
+first-is P (row ∷ rows) r c n h e = go (row .1 r c) refl e (first-is P rows r c n (h .1))
   where
-    go : (x : Bool) → cond x (some (row .0)) (first rows r c) ≡ some n → (first rows r c ≡ some n → 0 < n) → 0 < n
-    go true e ih = subst (λ (k : ℕ). 0 < k) (Option·some-injective (row .0) n e) (h .0)
-    go false e ih = ih e
+    go : (x : Bool) → row .1 r c ≡ x → cond x (some (row .0)) (first rows r c) ≡ some n → (first rows r c ≡ some n → P n) → P n
+    go true t e ih = subst P (Option·some-injective (row .0) n e) (h .0 t)
+    go false t e ih = ih e
 
 pub refusal-number : (r : Reads) (c : Call) (n : ℕ) → refusal r c ≡ some n → 0 < n
 refusal-number r c n =
-    first-number order r c n
-    (omega arith, (omega arith, (omega arith, (omega arith, (omega arith, (omega arith, (omega arith, (omega arith, (omega arith, tt)))))))))
+    first-is (λ k. 0 < k) order r c n
+    ((λ _. omega arith), ((λ _. omega arith), ((λ _. omega arith), ((λ _. omega arith), ((λ _. omega arith), ((λ _. omega arith), ((λ _. omega arith), ((λ _. omega arith), ((λ _. omega arith), tt)))))))))
 
 -- its seats are below 8 and two are different; it has the cells that it needs
 pub below-8 : (r : Reads) (c : Call) → refusal r c ≡ none → (i : ℕ) → among i (names c) ≡ true → i < 8

@@ -2,18 +2,20 @@
 use mathlib.Core.Path.{_≡_, refl, sym, _∙_, ap, ap₂, subst}
 use mathlib.Core.Bool.{Bool, true, false, false≢true}
 use mathlib.Core.List.{List, [], _∷_}
+use mathlib.Core.Logic.{_⊎_, inl, inr}
 use mathlib.Core.Option.{some}
 use Prim.Native.Nat.{ℕ, _+_, _<_, _≤_}
 use native.Mathlib.Omega.{arith}
+use lib.Dec.{leb}
 use Rattle.grid.proofs.Places.{sum-at, sum-only}
 use Rattle.seats.specs.Call.{Call, One, Two, Prepare, Count, names, refused}
 use Rattle.seats.specs.Promise.{among}
-use Rattle.seats.specs.Refusal.{refusal}
-use Rattle.seats.specs.Run.{on, onNone, answersTo, strike, Undisturbed, NeverShort, trace}
+use Rattle.seats.specs.Refusal.{any, refusal}
+use Rattle.seats.specs.Run.{on, onNone, NoOther, answersTo, strike, Undisturbed, NeverShort, trace}
 use Rattle.seats.specs.Seat.{State, prepared, reached, used, free}
 use Rattle.seats.specs.Step.{readsOf, play, step}
 use Rattle.seats.proofs.Laws.{thrifty, fresh-none, fits, frame, SameOutcome, local}
-use Rattle.seats.proofs.Names.{among-head, among-one, not-among-one}
+use Rattle.seats.proofs.Names.{not-above, untrue, any-none}
 
 -- a call that names no seat
 none-named : (c : Call) → onNone c ≡ true → (i : ℕ) → among i (names c) ≡ false
@@ -29,6 +31,15 @@ some-named Prepare e h = let z : _≡_ {A = ℕ} 0 1 = cc in omega arith
 some-named Count e h = false≢true (sym e)
 
 module _ (b : ℕ) (bs : List ℕ) where
+  -- a refusal changes nothing
+  pub refused-still : (st : State b bs) (c : Call) (n : ℕ) → refusal (readsOf b bs (st .seat) (free b bs st)) c ≡ some n → step b bs st c ≡ (refused n, st)
+  unfolding step play
+  refused-still st c n e = rw e refl
+
+  -- nor does a call that names a number above 7
+  above-still : (st : State b bs) (c : Call) → any (λ i. leb 8 i) (names c) ≡ true → step b bs st c ≡ (refused 2, st)
+  above-still st c e = refused-still st c 2 (rw e refl)
+
   -- ---- demand 3
 
   -- the second state has seat a as in the first, and no cells in the other seats
@@ -50,16 +61,16 @@ module _ (b : ℕ) (bs : List ℕ) where
           sum-only 8 (λ i. reached b bs (st' .seat i)) a (h .others),
         )
 
-    -- a call on a alone, on both sides
-    own-step : (st st' : State b bs) → Alone a st st' → (c : Call) → names c ≡ a ∷ [] → (step b bs st c .0 ≡ refused 9 → ⊥)
+    -- a call that names seat a alone, on both sides
+    seat-step : (st st' : State b bs) → Alone a st st' → (c : Call) → on a c ≡ true → ((i : ℕ) → among i (names c) ≡ true → i ≡ a) → (step b bs st c .0 ≡ refused 9 → ⊥)
         → (step b bs st c .0 ≡ step b bs st' c .0) × Alone a (step b bs st c .1) (step b bs st' c .1)
     unfolding step
-    own-step st st' h c e n = (
+    seat-step st st' h c e only n = (
       ap (λ o. o .0) t ∙ q .0,
       record {
         all = h .all;
-        own = ap (λ o. o .1 a) t ∙ q .1 a (ap (among a) e ∙ among-head a []);
-        others = λ i l' ne. ap (reached b bs) (frame b bs c (st' .seat) k' i l' (ap (among i) e ∙ not-among-one i a ne)) ∙ h .others i l' ne;
+        own = ap (λ o. o .1 a) t ∙ q .1 a e;
+        others = λ i l' ne. ap (reached b bs) (frame b bs c (st' .seat) k' i l' (untrue _ (λ m. ne (only i m)))) ∙ h .others i l' ne;
       },
     )
       where
@@ -70,7 +81,7 @@ module _ (b : ℕ) (bs : List ℕ) where
         k' = free b bs st'
 
         named : names c ≡ [] → ⊥
-        named z = false≢true (ap (among a) (sym z ∙ e) ∙ among-head a [])
+        named z = false≢true (sym (ap (among a) z) ∙ e)
 
         t : play b bs c (st .seat) k ≡ play b bs c (st .seat) k'
         t = thrifty b bs c (st .seat) k k' (alone-free st st' h) named n
@@ -78,7 +89,20 @@ module _ (b : ℕ) (bs : List ℕ) where
         q : SameOutcome b bs (names c) (play b bs c (st .seat) k') (play b bs c (st' .seat) k')
         q =
             local b bs c (st .seat) (st' .seat) k'
-            (λ i m. subst (λ (j : ℕ). st .seat j ≡ st' .seat j) (sym (among-one i a (sym (ap (among i) e) ∙ m))) (h .own))
+            (λ i m. subst (λ (j : ℕ). st .seat j ≡ st' .seat j) (sym (only i m)) (h .own))
+
+    -- a call that names a and no other seat: where it names a number that is no seat, both sides refuse it with 2
+    own-step : (st st' : State b bs) → Alone a st st' → (c : Call) → on a c ≡ true → NoOther a c → (step b bs st c .0 ≡ refused 9 → ⊥)
+        → (step b bs st c .0 ≡ step b bs st' c .0) × Alone a (step b bs st c .1) (step b bs st' c .1)
+    own-step st st' h c e only n = go (any (λ i. leb 8 i) (names c)) refl
+      where
+        seat : (i : ℕ) → i < 8 → (i ≡ a) ⊎ (8 ≤ i) → i ≡ a
+        seat i l' (inl g) = g
+        seat i l' (inr g) = absurd (omega (arith, l', g))
+
+        go : (x : Bool) → any (λ i. leb 8 i) (names c) ≡ x → (step b bs st c .0 ≡ step b bs st' c .0) × Alone a (step b bs st c .1) (step b bs st' c .1)
+        go true g = rw (above-still st c g, above-still st' c g) (refl, h)
+        go false g = seat-step st st' h c e (λ i m. seat i (not-above i (any-none (λ j. leb 8 j) (names c) g i m)) (only i m)) n
 
     -- a call that does not name a, on the first side
     other-step : (st st' : State b bs) → Alone a st st' → (c : Call) → on a c ≡ false → Alone a (step b bs st c .1) st'
@@ -109,8 +133,8 @@ module _ (b : ℕ) (bs : List ℕ) where
             → ((t t' : State b bs) → Alone a t t' → Undisturbed a (trace b bs t cs) → answersTo a (trace b bs t cs) ≡ answersTo a (trace b bs t' (strike a cs)))
             → answersTo a (trace b bs st (c ∷ cs)) ≡ answersTo a (trace b bs st' (strike a (c ∷ cs)))
         go true y e _ ih =
-            let k = own-step st st' h c (s .0 e .0) (s .0 e .1) in
-            rw (e, e) (ap₂ _∷_ (k .0) (ih (step b bs st c .1) (step b bs st' c .1) (k .1) (s .1)))
+            let k = own-step st st' h c e (s .0 e .0) (s .0 e .1) in
+            rw (e, e) (ap₂ (λ r es. (c, r) ∷ es) (k .0) (ih (step b bs st c .1) (step b bs st' c .1) (k .1) (s .1)))
         go false true e g ih =
             rw (e, g, e)
             (ih (step b bs st c .1) (step b bs st' c .1) (count-step (step b bs st c .1) st' (other-step st st' h c e) c g) (s .1))
@@ -164,8 +188,3 @@ module _ (b : ℕ) (bs : List ℕ) where
   pub step-within : (st : State b bs) (c : Call) → used b bs (st .seat) ≤ st .all → used b bs (step b bs st c .1 .seat) ≤ st .all
   unfolding step free
   step-within st c h = omega (arith, h, fits b bs c (st .seat) (free b bs st))
-
-  -- a refusal changes nothing
-  pub refused-still : (st : State b bs) (c : Call) (n : ℕ) → refusal (readsOf b bs (st .seat) (free b bs st)) c ≡ some n → step b bs st c ≡ (refused n, st)
-  unfolding step play
-  refused-still st c n e = rw e refl

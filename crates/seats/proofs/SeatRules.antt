@@ -1,41 +1,37 @@
--- The calls on whole seats, as later calls see them: sign fill, copy, flip, prune, cut, fill with a value, clear. That a call was accepted is the only premise: the
--- pool is then sound and the seats that it names are there. Assumes nothing.
+-- The calls on one whole seat, as later calls see them: sign fill, flip, prune, cut, fill with a value, clear. That a call was accepted is the only premise: the pool
+-- is then sound and the seat is there. `others-stay` and `others-lookup` are of any call, refused or not, and ask for a sound pool. Assumes nothing.
 use mathlib.Core.Path.{_≡_, refl, sym, _∙_, ap, subst, fun-ext}
 use mathlib.Core.Bool.{Bool, true, false, not, cond}
-use mathlib.Core.List.{List, [], _∷_}
-use mathlib.Core.Option.{Option, none, some}
-use Prim.Native.Nat.{ℕ, _+_, _<_, _≤_}
+use mathlib.Core.List.{List, _∷_}
+use mathlib.Core.Option.{Option, some}
+use Prim.Native.Nat.{ℕ, _+_, _<_}
 use native.Mathlib.Omega.{arith}
-use lib.Dec.{leb}
-use lib.Arith.{lt→nleb}
-use lib.Ieee.Bits.{is-false}
-use borrow.Author.Tests.{ne-eqb, not-false}
 use Rattle.floats.specs.Test.{passes}
 use Rattle.floats.specs.Value.{negative, negated}
 use Rattle.floats.specs.declared.Test.{Test}
 use Rattle.grid.specs.Geometry.{Point, slotOf}
-use Rattle.grid.specs.Node.{isHidden, size, put}
+use Rattle.grid.specs.Node.{put}
 use Rattle.grid.specs.SignFill.{fillSigns}
 use Rattle.grid.specs.Voxel.{lookup, signAt}
-use Rattle.grid.specs.Whole.{fill, clear, pruneS, cutS, flip, isEmpty, hasHollow}
-use Rattle.grid.proofs.Cells.{flat-cells, flip-cells, empty-reach}
+use Rattle.grid.specs.Whole.{fill, flip, isEmpty, hasHollow}
+use Rattle.grid.proofs.Cells.{flat-cells, flip-cells}
 use Rattle.grid.proofs.CombinedSign as sign
-use Rattle.grid.proofs.Places.{put-at, put-same, every-all, sum-put}
-use Rattle.grid.proofs.Reach.{prune-cells, cut-cells, fillSigns-cells, map-reach, same-reach}
+use Rattle.grid.proofs.Places.{put-at, put-same}
+use Rattle.grid.proofs.Reach.{fillSigns-cells, same-reach}
 use Rattle.grid.proofs.SignFill.{fillSigns-lookup, fillSigns-twice, fillSigns-isEmpty, fillSigns-has-hollow}
 use Rattle.grid.proofs.Voxel.{active-sign}
 use Rattle.grid.proofs.Whole as grid
 use Rattle.grid.proofs.Whole.{through, uncut}
-use Rattle.seats.specs.Call.{Lookup, Sign, Fill, Cut, Clear, Prune, Flip, FillSigns, IsEmpty, Copy, Call, One, Two, names, Answer, refused, found, negativeIs, emptyIs, freeCells, done}
-use Rattle.seats.specs.Promise.{among, Memory, Promise, Turns, Answers, Counts, LooksAlike}
+use Rattle.seats.specs.Call.{Lookup, Sign, Fill, Cut, Clear, Prune, Flip, FillSigns, IsEmpty, Call, One, names, Answer, refused, found, negativeIs, emptyIs, freeCells, done}
+use Rattle.seats.specs.Promise.{among, Memory, Promise, Turns, Answers, Unsigned, Cleared, Counts, LooksAlike}
 use Rattle.seats.specs.Refusal.{order}
-use Rattle.seats.specs.Seat.{Seat, State, unmarked, marked, fresh, reached, used, free}
-use Rattle.seats.specs.Step.{act, both, needTwo, served, unless, play, step}
-use Rattle.seats.proofs.Asked.{lookup-call, sign-call, fill-signs-call, empty-call, flip-call, asked, shown, counted, same-lookup, readsAt, Turned, turned, below, own-seat, other-seat, stays, kept-lookup, lookup-then, cells-then}
+use Rattle.seats.specs.Seat.{Seat, State, marked, fresh, reached, free}
+use Rattle.seats.specs.Step.{act, served, step}
+use Rattle.seats.proofs.Asked.{flip-call, asked, lookup-asked, sign-asked, empty-asked, fill-signs-asked, fresh-cleared, shown, same-lookup}
 use Rattle.seats.proofs.Laws.{frame, fresh-none}
-use Rattle.seats.proofs.Names.{among-head, among-rest}
-use Rattle.seats.proofs.Promise.{put-own, sim}
-use Rattle.seats.proofs.Refusal.{all-pass, below-8, different}
+use Rattle.seats.proofs.Promise.{sim}
+use Rattle.seats.proofs.Refusal.{all-pass}
+use Rattle.seats.proofs.Turned.{readsAt, Turned, turned, below, own-seat, stays, kept-lookup, lookup-then, unmarked-sign, count-then}
 
 -- the answer with the other sign
 abbrev pub contrary : Answer → Answer
@@ -71,7 +67,7 @@ module _ (b : ℕ) (bs : List ℕ) (𝓜 : Memory b bs) where
 
   -- it is accepted where no branch is empty
   fill-accepted : (i : ℕ) → i < 8 → (m : 𝓜 .Mem) → 𝓜 .Sound m → hasHollow b bs (𝓜 .state m .seat i .grid) ≡ false → (r : Answer) → Answers b bs 𝓜 (One i FillSigns) m r → r ≡ done
-  fill-accepted i l m s e r h = asked b bs 𝓜 m s (One i FillSigns) r h ∙ fill-signs-call b bs i l (𝓜 .state m) ∙ ap (λ (k : Bool). cond k (refused 7) done) e
+  fill-accepted i l m s e r h = fill-signs-asked b bs 𝓜 m s i l r h ∙ ap (λ (k : Bool). cond k (refused 7) done) e
 
   module _ (i : ℕ) (m m' : 𝓜 .Mem) (h : Turns b bs 𝓜 (One i FillSigns) m m') where
     t : Turned b bs 𝓜 (One i FillSigns) m m'
@@ -92,8 +88,7 @@ module _ (b : ℕ) (bs : List ℕ) (𝓜 : Memory b bs) where
     fill-signs-sign = (
       ap (λ s. s .filled) seat-after,
       (λ p r k.
-          asked b bs 𝓜 m' (t .after) (One i (Sign p)) r k
-          ∙ sign-call b bs i (below b bs 𝓜 i FillSigns m m' t) (𝓜 .state m') p
+          sign-asked b bs 𝓜 m' (t .after) i (below b bs 𝓜 i FillSigns m m' t) p r k
           ∙ ap (λ s. cond (s .filled) (negativeIs (signAt (b ∷ bs) (s .grid) p)) (refused 6)) seat-after),
     )
 
@@ -129,118 +124,20 @@ module _ (b : ℕ) (bs : List ℕ) (𝓜 : Memory b bs) where
     pub fill-signs-empty : (r r' : Answer) → Answers b bs 𝓜 (One i IsEmpty) m r → Answers b bs 𝓜 (One i IsEmpty) m' r' → r' ≡ r
     fill-signs-empty r r' k k' =
         let l = below b bs 𝓜 i FillSigns m m' t in
-        asked b bs 𝓜 m' (t .after) (One i IsEmpty) r' k'
-        ∙ empty-call b bs i l (𝓜 .state m')
+        empty-asked b bs 𝓜 m' (t .after) i l r' k'
         ∙ ap emptyIs (ap (λ s. isEmpty b bs (s .grid)) seat-after ∙ fillSigns-isEmpty b bs (𝓜 .state m .seat i .grid))
-        ∙ sym (empty-call b bs i l (𝓜 .state m))
-        ∙ sym (asked b bs 𝓜 m (t .before) (One i IsEmpty) r k)
+        ∙ sym (empty-asked b bs 𝓜 m (t .before) i l r k)
 
     -- no cell is taken or released
     pub fill-signs-free : (k k' : ℕ) → Counts b bs 𝓜 m k → Counts b bs 𝓜 m' k' → k' ≡ k
-    unfolding act reached
+    unfolding reached
     fill-signs-free k k' q q' =
         omega (
           arith,
-          counted b bs 𝓜 m (t .before) k q,
-          counted b bs 𝓜 m' (t .after) k' q',
-          cells-then b bs 𝓜 i FillSigns m m' t,
+          count-then b bs 𝓜 i FillSigns m m' t k k' q q',
+          ap (reached b bs) seat-after,
           same-reach b bs (fillSigns (b ∷ bs) (𝓜 .state m .seat i .grid)) (𝓜 .state m .seat i .grid) (fillSigns-cells (b ∷ bs) (𝓜 .state m .seat i .grid)),
         )
-
-  -- ---- copy
-
-  module _ (i j : ℕ) (m m' : 𝓜 .Mem) (h : Turns b bs 𝓜 (Two Copy i j) m m') where
-    c : Turned b bs 𝓜 (Two Copy i j) m m'
-    c = turned b bs 𝓜 (Two Copy i j) m m' refl h
-
-    in-range : (i < 8) × (j < 8)
-    in-range =
-        let g = below-8 (readsAt b bs 𝓜 m) (Two Copy i j) (c .granted) in (g i (among-head i (j ∷ [])), g j (among-rest j (i ∷ j ∷ []) (among-head j [])))
-
-    one-put : 𝓜 .state m' ≡ record { seat = put (𝓜 .state m .seat) j (unmarked b bs (𝓜 .state m .seat i .grid)); all = 𝓜 .state m .all }
-    unfolding served both
-    one-put = c .seats ∙ ap (λ f. record { seat = put f j (unmarked b bs (𝓜 .state m .seat i .grid)); all = 𝓜 .state m .all }) (put-own (𝓜 .state m .seat) i)
-
-    target : 𝓜 .state m' .seat j ≡ unmarked b bs (𝓜 .state m .seat i .grid)
-    target = ap (λ st. st .seat j) one-put ∙ put-same (𝓜 .state m .seat) j (unmarked b bs (𝓜 .state m .seat i .grid))
-
-    -- the target's grid is the source's, slot by slot, "hidden values too", so every lookup and every sign of it is; and it is not marked
-    pub copy-target : (𝓜 .state m' .seat j .grid ≡ 𝓜 .state m .seat i .grid) × (𝓜 .state m' .seat j .filled ≡ false)
-    copy-target = (ap (λ s. s .grid) target, ap (λ s. s .filled) target)
-
-    -- the other seats, the source among them, are as before
-    pub copy-others : (a : ℕ) → (a ≡ j → ⊥) → 𝓜 .state m' .seat a ≡ 𝓜 .state m .seat a
-    copy-others a d =
-        ap (λ st. st .seat a) one-put
-        ∙ put-at (λ s. s ≡ 𝓜 .state m .seat a) (𝓜 .state m .seat) j (unmarked b bs (𝓜 .state m .seat i .grid)) a (λ e. absurd (d e)) (λ _. refl)
-
-    -- a lookup in the target is answered as it was in the source
-    pub copy-lookup : LooksAlike b bs 𝓜 m i m' j
-    copy-lookup p r r' k k' =
-        asked b bs 𝓜 m' (c .after) (One j (Lookup p)) r' k'
-        ∙ lookup-call b bs j (in-range .1) (𝓜 .state m') p
-        ∙ ap (λ n. found (lookup (b ∷ bs) n p)) (copy-target .0)
-        ∙ sym (lookup-call b bs i (in-range .0) (𝓜 .state m) p)
-        ∙ sym (asked b bs 𝓜 m (c .before) (One i (Lookup p)) r k)
-
-    -- and in every other seat as before
-    pub copy-others-lookup : (a : ℕ) → (a ≡ j → ⊥) → LooksAlike b bs 𝓜 m a m' a
-    copy-others-lookup a d p = same-lookup b bs 𝓜 a p m m' (c .before) (c .after) (λ _. ap (λ s. lookup (b ∷ bs) (s .grid) p) (copy-others a d))
-
-    -- once both are filled, they have the same sign at every voxel
-    pub copy-sign : (m₂ m₃ : 𝓜 .Mem) → Turns b bs 𝓜 (One i FillSigns) m' m₂ → Turns b bs 𝓜 (One j FillSigns) m₂ m₃
-        → (p : Point) (r r' : Answer) → Answers b bs 𝓜 (One i (Sign p)) m₃ r → Answers b bs 𝓜 (One j (Sign p)) m₃ r' → r' ≡ r
-    copy-sign m₂ m₃ h₂ h₃ p r r' k k' =
-        fill-signs-sign j m₂ m₃ h₃ .1 p r' k'
-        ∙ ap (λ n. negativeIs (signAt (b ∷ bs) (fillSigns (b ∷ bs) n) p)) alike
-        ∙ sym (ap (λ s. cond (s .filled) (negativeIs (signAt (b ∷ bs) (s .grid) p)) (refused 6)) source)
-        ∙ sym (sign-call b bs i (in-range .0) (𝓜 .state m₃) p)
-        ∙ sym (asked b bs 𝓜 m₃ (t₃ .after) (One i (Sign p)) r k)
-      where
-        apart : j ≡ i → ⊥
-        apart = different (readsAt b bs 𝓜 m) Copy i j (c .granted)
-
-        t₂ : Turned b bs 𝓜 (One i FillSigns) m' m₂
-        t₂ = turned b bs 𝓜 (One i FillSigns) m' m₂ refl h₂
-
-        t₃ : Turned b bs 𝓜 (One j FillSigns) m₂ m₃
-        t₃ = turned b bs 𝓜 (One j FillSigns) m₂ m₃ refl h₃
-
-        alike : 𝓜 .state m₂ .seat j .grid ≡ 𝓜 .state m' .seat i .grid
-        alike = ap (λ s. s .grid) (other-seat b bs 𝓜 i FillSigns m' m₂ t₂ j apart) ∙ copy-target .0 ∙ sym (ap (λ s. s .grid) (copy-others i (λ e. apart (sym e))))
-
-        source : 𝓜 .state m₃ .seat i ≡ marked b bs (fillSigns (b ∷ bs) (𝓜 .state m' .seat i .grid))
-        source = other-seat b bs 𝓜 j FillSigns m₂ m₃ t₃ i (λ e. apart (sym e)) ∙ seat-after i m' m₂ h₂
-
-    -- "needs as many cells as the first seat reaches"
-    pub copy-free : (k k' : ℕ) → Counts b bs 𝓜 m k → Counts b bs 𝓜 m' k' → k' + reached b bs (𝓜 .state m .seat i) ≡ k
-    unfolding free used reached
-    copy-free k k' q q' =
-        omega (
-          arith,
-          counted b bs 𝓜 m (c .before) k q,
-          counted b bs 𝓜 m' (c .after) k' q',
-          ap (λ st. used b bs (st .seat)) one-put,
-          ap (λ st. st .all) one-put,
-          sum-put (reached b bs) 8 (𝓜 .state m .seat) j (unmarked b bs (𝓜 .state m .seat i .grid)) (in-range .1),
-          empty-reach b bs (𝓜 .state m .seat j .grid) (not-false _ (all-pass order (readsAt b bs 𝓜 m) (Two Copy i j) (c .granted) .1 .1 .1 .1 .1 .1 .1 .0)),
-          𝓜 .within m (c .before),
-          𝓜 .within m' (c .after),
-        )
-
-  -- on a sound pool, seats that differ, an empty target: 9 exactly if fewer cells are free than the first seat reaches
-  pub copy-needs : (i j : ℕ) → i < 8 → j < 8 → (j ≡ i → ⊥) → (m : 𝓜 .Mem) → 𝓜 .Sound m → isEmpty b bs (𝓜 .state m .seat j .grid) ≡ true
-      → (k : ℕ) → Counts b bs 𝓜 m k → (r : Answer) → Answers b bs 𝓜 (Two Copy i j) m r → r ≡ cond (leb (reached b bs (𝓜 .state m .seat i)) k) done (refused 9)
-  unfolding step play served both needTwo
-  copy-needs i j l l' d m s e k q r h =
-      asked b bs 𝓜 m s (Two Copy i j) r h
-      ∙ rw (is-false (leb 8 i) (lt→nleb 8 i l), is-false (leb 8 j) (lt→nleb 8 j l'), ne-eqb i j (λ g. d (sym g)), e)
-      (go (leb (reached b bs (𝓜 .state m .seat i)) (free b bs (𝓜 .state m))))
-      ∙ ap (λ (n : ℕ). cond (leb (reached b bs (𝓜 .state m .seat i)) n) done (refused 9)) (sym (counted b bs 𝓜 m s k q))
-    where
-      go : (x : Bool) → unless b bs (cond (not x) (some 9) none) (𝓜 .state m .seat) (served b bs (Two Copy i j) (𝓜 .state m .seat) (free b bs (𝓜 .state m))) .0 ≡ cond x done (refused 9)
-      go true = refl
-      go false = refl
 
   -- ---- flip
 
@@ -264,12 +161,11 @@ module _ (b : ℕ) (bs : List ℕ) (𝓜 : Memory b bs) where
     -- "hidden ones too, and keeps the filled mark": a sign is the other one; and where it was refused it is
     pub flip-sign : (p : Point) (r r' : Answer) → Answers b bs 𝓜 (One i (Sign p)) m r → Answers b bs 𝓜 (One i (Sign p)) m' r' → r' ≡ contrary r
     flip-sign p r r' k k' =
-        asked b bs 𝓜 m' (f .after) (One i (Sign p)) r' k'
-        ∙ sign-call b bs i l (𝓜 .state m') p
+        sign-asked b bs 𝓜 m' (f .after) i l p r' k'
         ∙ ap (λ s. cond (s .filled) (negativeIs (signAt (b ∷ bs) (s .grid) p)) (refused 6)) flipped
         ∙ ap (λ (x : Bool). cond (𝓜 .state m .seat i .filled) (negativeIs x) (refused 6)) (sign.flip-sign p (b ∷ bs) (𝓜 .state m .seat i .grid))
         ∙ go (𝓜 .state m .seat i .filled) (signAt (b ∷ bs) (𝓜 .state m .seat i .grid) p)
-        ∙ sym (ap contrary (asked b bs 𝓜 m (f .before) (One i (Sign p)) r k ∙ sign-call b bs i l (𝓜 .state m) p))
+        ∙ sym (ap contrary (sign-asked b bs 𝓜 m (f .before) i l p r k))
       where
         go : (x y : Bool) → cond x (negativeIs (not y)) (refused 6) ≡ contrary (cond x (negativeIs y) (refused 6))
         go true y = refl
@@ -301,28 +197,23 @@ module _ (b : ℕ) (bs : List ℕ) (𝓜 : Memory b bs) where
     -- a sign fill is refused with 7 afterwards exactly if it was before
     pub flip-fill-signs : (r r' : Answer) → Answers b bs 𝓜 (One i FillSigns) m r → Answers b bs 𝓜 (One i FillSigns) m' r' → r' ≡ r
     flip-fill-signs r r' k k' =
-        asked b bs 𝓜 m' (f .after) (One i FillSigns) r' k'
-        ∙ fill-signs-call b bs i l (𝓜 .state m')
+        fill-signs-asked b bs 𝓜 m' (f .after) i l r' k'
         ∙ ap (λ (x : Bool). cond x (refused 7) done) (ap (λ s. hasHollow b bs (s .grid)) flipped ∙ grid.flip-has-hollow b bs (𝓜 .state m .seat i .grid))
-        ∙ sym (fill-signs-call b bs i l (𝓜 .state m))
-        ∙ sym (asked b bs 𝓜 m (f .before) (One i FillSigns) r k)
+        ∙ sym (fill-signs-asked b bs 𝓜 m (f .before) i l r k)
 
     pub flip-empty : (r r' : Answer) → Answers b bs 𝓜 (One i IsEmpty) m r → Answers b bs 𝓜 (One i IsEmpty) m' r' → r' ≡ r
     flip-empty r r' k k' =
-        asked b bs 𝓜 m' (f .after) (One i IsEmpty) r' k'
-        ∙ empty-call b bs i l (𝓜 .state m')
+        empty-asked b bs 𝓜 m' (f .after) i l r' k'
         ∙ ap emptyIs (ap (λ s. isEmpty b bs (s .grid)) flipped ∙ grid.flip-empty b bs (𝓜 .state m .seat i .grid))
-        ∙ sym (empty-call b bs i l (𝓜 .state m))
-        ∙ sym (asked b bs 𝓜 m (f .before) (One i IsEmpty) r k)
+        ∙ sym (empty-asked b bs 𝓜 m (f .before) i l r k)
 
     pub flip-free : (k k' : ℕ) → Counts b bs 𝓜 m k → Counts b bs 𝓜 m' k' → k' ≡ k
-    unfolding act reached
+    unfolding reached
     flip-free k k' q q' =
         omega (
           arith,
-          counted b bs 𝓜 m (f .before) k q,
-          counted b bs 𝓜 m' (f .after) k' q',
-          cells-then b bs 𝓜 i Flip m m' f,
+          count-then b bs 𝓜 i Flip m m' f k k' q q',
+          ap (reached b bs) flipped,
           same-reach b bs (flip (b ∷ bs) (𝓜 .state m .seat i .grid)) (𝓜 .state m .seat i .grid) (flip-cells (b ∷ bs) (𝓜 .state m .seat i .grid)),
         )
 
@@ -344,17 +235,14 @@ module _ (b : ℕ) (bs : List ℕ) (𝓜 : Memory b bs) where
         let e = ap (λ s. hasHollow b bs (s .grid)) (own-seat b bs 𝓜 i Prune m m' pruned) ∙ grid.prune-none-hollow b bs (𝓜 .state m .seat i .grid) in
         (e, fill-accepted i (below b bs 𝓜 i Prune m m' pruned) m' (pruned .after) e)
 
-    -- no cell is taken
-    pub prune-free : (k k' : ℕ) → Counts b bs 𝓜 m k → Counts b bs 𝓜 m' k' → k ≤ k'
-    unfolding act reached
-    prune-free k k' q q' =
-        omega (
-          arith,
-          counted b bs 𝓜 m (pruned .before) k q,
-          counted b bs 𝓜 m' (pruned .after) k' q',
-          cells-then b bs 𝓜 i Prune m m' pruned,
-          map-reach b bs (λ n. pruneS bs (𝓜 .state m .seat i .grid n)) (𝓜 .state m .seat i .grid) (λ n. prune-cells bs (𝓜 .state m .seat i .grid n)),
-        )
+    -- it is unmarked
+    pub prune-unfilled : Unsigned b bs 𝓜 m' i
+    unfolding act
+    prune-unfilled = unmarked-sign b bs 𝓜 i Prune m m' pruned refl
+
+    -- what the seat does not reach any more is free again
+    pub prune-free : (k k' : ℕ) → Counts b bs 𝓜 m k → Counts b bs 𝓜 m' k' → k' + reached b bs (𝓜 .state m' .seat i) ≡ k + reached b bs (𝓜 .state m .seat i)
+    prune-free = count-then b bs 𝓜 i Prune m m' pruned
 
   -- ---- cut
 
@@ -375,16 +263,12 @@ module _ (b : ℕ) (bs : List ℕ) (𝓜 : Memory b bs) where
         let e = ap (λ s. hasHollow b bs (s .grid)) (own-seat b bs 𝓜 i (Cut x) m m' cuts) ∙ grid.cut-none-hollow b bs (passes x) (𝓜 .state m .seat i .grid) in
         (e, fill-accepted i (below b bs 𝓜 i (Cut x) m m' cuts) m' (cuts .after) e)
 
-    pub cut-free : (k k' : ℕ) → Counts b bs 𝓜 m k → Counts b bs 𝓜 m' k' → k ≤ k'
-    unfolding act reached
-    cut-free k k' q q' =
-        omega (
-          arith,
-          counted b bs 𝓜 m (cuts .before) k q,
-          counted b bs 𝓜 m' (cuts .after) k' q',
-          cells-then b bs 𝓜 i (Cut x) m m' cuts,
-          map-reach b bs (λ n. cutS (passes x) bs (𝓜 .state m .seat i .grid n)) (𝓜 .state m .seat i .grid) (λ n. cut-cells (passes x) bs (𝓜 .state m .seat i .grid n)),
-        )
+    pub cut-unfilled : Unsigned b bs 𝓜 m' i
+    unfolding act
+    cut-unfilled = unmarked-sign b bs 𝓜 i (Cut x) m m' cuts refl
+
+    pub cut-free : (k k' : ℕ) → Counts b bs 𝓜 m k → Counts b bs 𝓜 m' k' → k' + reached b bs (𝓜 .state m' .seat i) ≡ k + reached b bs (𝓜 .state m .seat i)
+    cut-free = count-then b bs 𝓜 i (Cut x) m m' cuts
 
   -- ---- fill with a value, clear
 
@@ -396,10 +280,13 @@ module _ (b : ℕ) (bs : List ℕ) (𝓜 : Memory b bs) where
     pub fill-lookup : (p : Point) (r : Answer) → Answers b bs 𝓜 (One i (Lookup p)) m' r → r ≡ found (some v)
     unfolding act
     fill-lookup p r k =
-        asked b bs 𝓜 m' (fills .after) (One i (Lookup p)) r k
-        ∙ lookup-call b bs i (below b bs 𝓜 i (Fill v) m m' fills) (𝓜 .state m') p
+        lookup-asked b bs 𝓜 m' (fills .after) i (below b bs 𝓜 i (Fill v) m m' fills) p r k
         ∙ ap (λ s. found (lookup (b ∷ bs) (s .grid) p)) (own-seat b bs 𝓜 i (Fill v) m m' fills)
         ∙ ap found (grid.fill-lookup p b bs v)
+
+    pub fill-unfilled : Unsigned b bs 𝓜 m' i
+    unfolding act
+    fill-unfilled = unmarked-sign b bs 𝓜 i (Fill v) m m' fills refl
 
     -- "releases all branches": what the seat reached is free again
     pub fill-free : (k k' : ℕ) → Counts b bs 𝓜 m k → Counts b bs 𝓜 m' k' → k' ≡ k + reached b bs (𝓜 .state m .seat i)
@@ -407,9 +294,8 @@ module _ (b : ℕ) (bs : List ℕ) (𝓜 : Memory b bs) where
     fill-free k k' q q' =
         omega (
           arith,
-          counted b bs 𝓜 m (fills .before) k q,
-          counted b bs 𝓜 m' (fills .after) k' q',
-          cells-then b bs 𝓜 i (Fill v) m m' fills,
+          count-then b bs 𝓜 i (Fill v) m m' fills k k' q q',
+          ap (reached b bs) (own-seat b bs 𝓜 i (Fill v) m m' fills),
           flat-cells b bs (fill b bs v) (λ _. refl),
         )
 
@@ -417,35 +303,15 @@ module _ (b : ℕ) (bs : List ℕ) (𝓜 : Memory b bs) where
     clears : Turned b bs 𝓜 (One i Clear) m m'
     clears = turned b bs 𝓜 (One i Clear) m m' refl h
 
-    -- "empties the seat": it is as in a prepared pool, so that no lookup shows anything
+    -- "empties the seat": it is as in a prepared pool
     pub clear-seat : 𝓜 .state m' .seat i ≡ fresh b bs
     unfolding act
     clear-seat = own-seat b bs 𝓜 i Clear m m' clears
 
-    pub clear-lookup : (p : Point) (r : Answer) → Answers b bs 𝓜 (One i (Lookup p)) m' r → r ≡ found none
-    unfolding fresh
-    clear-lookup p r k =
-        asked b bs 𝓜 m' (clears .after) (One i (Lookup p)) r k
-        ∙ lookup-call b bs i (below b bs 𝓜 i Clear m m' clears) (𝓜 .state m') p
-        ∙ ap (λ s. found (lookup (b ∷ bs) (s .grid) p)) clear-seat
-        ∙ ap found (grid.clear-lookup p b bs)
-
-    pub clear-empty : (r : Answer) → Answers b bs 𝓜 (One i IsEmpty) m' r → r ≡ emptyIs true
-    unfolding fresh clear isEmpty isHidden
-    clear-empty r k =
-        asked b bs 𝓜 m' (clears .after) (One i IsEmpty) r k
-        ∙ empty-call b bs i (below b bs 𝓜 i Clear m m' clears) (𝓜 .state m')
-        ∙ ap (λ s. emptyIs (isEmpty b bs (s .grid))) clear-seat
-        ∙ ap emptyIs (every-all isHidden (size b) (clear b bs) (λ _. refl))
+    -- so no lookup shows anything, it is empty, and it has no sign
+    pub clear-clears : Cleared b bs 𝓜 m' i
+    clear-clears = fresh-cleared b bs 𝓜 m' (clears .after) i (below b bs 𝓜 i Clear m m' clears) clear-seat
 
     -- what the seat reached is free again
     pub clear-free : (k k' : ℕ) → Counts b bs 𝓜 m k → Counts b bs 𝓜 m' k' → k' ≡ k + reached b bs (𝓜 .state m .seat i)
-    unfolding act
-    clear-free k k' q q' =
-        omega (
-          arith,
-          counted b bs 𝓜 m (clears .before) k q,
-          counted b bs 𝓜 m' (clears .after) k' q',
-          cells-then b bs 𝓜 i Clear m m' clears,
-          fresh-none b bs,
-        )
+    clear-free k k' q q' = omega (arith, count-then b bs 𝓜 i Clear m m' clears k k' q q', ap (reached b bs) clear-seat, fresh-none b bs)

@@ -48,7 +48,7 @@ module _ (b : ℕ) (bs : List ℕ) where
         reads = toyReads;
         lookupAt = λ i p m. lookup (b ∷ bs) (m .held .seat i .grid) p;
         negativeAt = λ i p m. signAt (b ∷ bs) (m .held .seat i .grid) p;
-        Loose = λ m m'. Unit {0};
+        Unspoilt = λ m m'. Unit {0};
         is-sound = λ m e s. s;
         reads-is = λ m s c l. record { fit = refl; path = s; sound = s; filled = λ i a. refl; hollow = λ i a. refl; empty = λ i a. refl; need = refl; free = refl };
         lookup-is = λ m s i l p. refl;
@@ -82,7 +82,7 @@ module _ (b : ℕ) (bs : List ℕ) where
   unfolding step
   keeps-of (refuse n) c m h = (refl, refl)
   keeps-of (give a) c m h = (refl, refl)
-  keeps-of (turn a) c m h = (refl, refl, refl, refl)
+  keeps-of (turn a) c m h = (refl, refl, refl, refl, tt)
   keeps-of loose c m h = absurd (h refl)
 
   next-good : (v : Verdict) (c : Call) (m : Toy) → m .good ≡ true → nextOf v c m .good ≡ true
@@ -123,7 +123,7 @@ module _ (b : ℕ) (bs : List ℕ) where
         lent = lent n;
         ready = turned (lent n) Prepare;
         cells = refl;
-        prepares = (refl, refl, refl, refl);
+        prepares = (refl, refl, refl, refl, tt);
         chain = chained cs (turned (lent n) Prepare) refl;
       }
 

@@ -56,8 +56,8 @@ module _ (b : ℕ) (bs : List ℕ) where
     pub reads : Mem → Reads
     pub lookupAt : ℕ → Point → Mem → Option ℕ
     pub negativeAt : ℕ → Point → Mem → Bool
-    -- what an accepted insert or remove may do to an unsound pool
-    pub Loose : Mem → Mem → Type 0
+    -- no slot has got a word that is not finite, and none that holds such a word has become active or a branch
+    pub Unspoilt : Mem → Mem → Type 0
     -- the laws: what is tested is that the pool is sound; on a sound pool what is read is what the state has
     pub is-sound : (m : Mem) → reads m .fit ≡ true → reads m .sound ≡ true → Sound m
     pub reads-is : (m : Mem) → Sound m → (c : Call) → ((i : ℕ) → among i (names c) ≡ true → i < 8) → Agree c (reads m) (readsOf b bs (state m .seat) (free b bs (state m)))
@@ -97,11 +97,17 @@ module _ (b : ℕ) (bs : List ℕ) where
     abbrev pub Keeps : Verdict → Call → 𝓜 .Mem → Answer → 𝓜 .Mem → Type 0
     Keeps (refuse n) c m r m' = (r ≡ refused n) × (m' ≡ m)
     Keeps (give a) c m r m' = (r ≡ a) × (m' ≡ m)
-    Keeps (turn a) c m r m' = (r ≡ a) × 𝓜 .Sound m' × (𝓜 .state m' ≡ step b bs (𝓜 .state m) c .1) × (𝓜 .lens m' ≡ 𝓜 .lens m)
-    Keeps loose c m r m' = (r ≡ done) × (𝓜 .lens m' ≡ 𝓜 .lens m) × 𝓜 .Loose m m'
+    Keeps (turn a) c m r m' = (r ≡ a) × 𝓜 .Sound m' × (𝓜 .state m' ≡ step b bs (𝓜 .state m) c .1) × (𝓜 .lens m' ≡ 𝓜 .lens m) × 𝓜 .Unspoilt m m'
+    Keeps loose c m r m' = (r ≡ done) × (𝓜 .lens m' ≡ 𝓜 .lens m) × 𝓜 .Unspoilt m m'
 
     abbrev pub Promise : Call → 𝓜 .Mem → Answer → 𝓜 .Mem → Type 0
     Promise c m r m' = Keeps (verdict c m) c m r m'
+
+    -- two sound memories that stand for the same seats, in as many cells
+    pub record OneState (m m' : 𝓜 .Mem) : Type 0 where
+      pub sound : 𝓜 .Sound m
+      pub sound' : 𝓜 .Sound m'
+      pub state : 𝓜 .state m ≡ 𝓜 .state m'
 
     -- the call c is accepted on m and leaves m'; and r is an answer to the call c on m
     abbrev pub Turns : Call → 𝓜 .Mem → 𝓜 .Mem → Type 0
@@ -110,6 +116,10 @@ module _ (b : ℕ) (bs : List ℕ) where
     abbrev pub Answers : Call → 𝓜 .Mem → Answer → Type 0
     Answers c m r = (m' : 𝓜 .Mem) × Promise c m r m'
 
+    -- r is the answer: there is no other
+    abbrev pub OnlyAnswer : Call → 𝓜 .Mem → Answer → Type 0
+    OnlyAnswer c m r = Answers c m r × ((r' : Answer) → Answers c m r' → r' ≡ r)
+
     -- the free cells of m are counted as k
     abbrev pub Counts : 𝓜 .Mem → ℕ → Type 0
     Counts m k = Answers Count m (freeCells k)
@@ -117,6 +127,15 @@ module _ (b : ℕ) (bs : List ℕ) where
     -- every lookup in seat i' of m' is answered as in seat i of m
     abbrev pub LooksAlike : 𝓜 .Mem → ℕ → 𝓜 .Mem → ℕ → Type 0
     LooksAlike m i m' i' = (p : Point) (r r' : Answer) → Answers (One i (Lookup p)) m r → Answers (One i' (Lookup p)) m' r' → r' ≡ r
+
+    -- seat i of m has no sign
+    abbrev pub Unsigned : 𝓜 .Mem → ℕ → Type 0
+    Unsigned m i = (p : Point) (r : Answer) → Answers (One i (Sign p)) m r → r ≡ refused 6
+
+    -- seat i of m answers as after Clear: no lookup shows anything, it is empty, and it has no sign
+    abbrev pub Cleared : 𝓜 .Mem → ℕ → Type 0
+    Cleared m i =
+        ((p : Point) (r : Answer) → Answers (One i (Lookup p)) m r → r ≡ found none) × ((r : Answer) → Answers (One i IsEmpty) m r → r ≡ emptyIs true) × Unsigned m i
 
     -- ---- runs
 

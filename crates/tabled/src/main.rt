@@ -1,4 +1,4 @@
-// The tabled cases T12 and T14 of document 01, run. Each line is made of what the calls answered. T13, the combination of a seat with itself, waits for that call.
+// The tabled cases T12 to T14 of document 01, run. Each line is made of what the calls answered.
 use libc::STDOUT_FILENO;
 ghost use Prim.Native.Nat.{_≤_};
 
@@ -20,6 +20,24 @@ fn write_verdict(n: usize)
     } else {
         io::write_all(STDOUT_FILENO, b" refused");
     }
+}
+
+// Writes the answers to the three combinations of seat 2 with itself, in a prepared pool of one cell: also before 6, which a seat that is not filled would give.
+fn write_itself() {
+    let mut slots = [0u32; 4160];
+    let mut masks = [0u64; 130];
+    let mut book = [0u32; 11];
+    let prepared = calls::yoldrick_prepare(&mut slots, &mut masks, &mut book);
+    let union = calls::yoldrick_union(&mut slots, &mut masks, &mut book, 2, 2);
+    let subtract = calls::yoldrick_subtract(&mut slots, &mut masks, &mut book, 2, 2);
+    let intersect = calls::yoldrick_intersect(&mut slots, &mut masks, &mut book, 2, 2);
+    io::print_decimal(STDOUT_FILENO, prepared as u64);
+    io::write_all(STDOUT_FILENO, b", then ");
+    io::print_decimal(STDOUT_FILENO, union as u64);
+    io::write_all(STDOUT_FILENO, b", ");
+    io::print_decimal(STDOUT_FILENO, subtract as u64);
+    io::write_all(STDOUT_FILENO, b", ");
+    io::print_decimal(STDOUT_FILENO, intersect as u64);
 }
 
 // Whether the count of the free cells is accepted and says n.
@@ -86,6 +104,11 @@ fn main() {
     write_verdict(65535);
     io::write_all(STDOUT_FILENO, b", ");
     write_verdict(65536);
+    io::write_all(
+        STDOUT_FILENO,
+        b"\nT13 prepare, then seat 2 with itself by union, subtract and intersect: ",
+    );
+    write_itself();
     io::write_all(
         STDOUT_FILENO,
         b"\nT14 the last free cell is used and released ",

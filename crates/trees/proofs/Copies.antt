@@ -109,35 +109,68 @@ masks-copied mk p q h hp hq j =
     ∙ (λ i. cond (eqb (j / 64) q) (word-at mk h j i)
     ((bit-set mk p 0 hp j ∙ ap (λ (t : Bool). cond (eqb (j / 64) p) t (bitOf mk j)) (zero-bit j)) i))
 
--- ---- a leaf as one piece: the first m slots of cell y are given what op makes of them and of those of cell x, which may be y, by the places of groups 56 + y and 56 + x
+-- ---- a leaf as one piece: the first m slots of cell y are given the values a, by the places of group 56 + y
+module _ {A : Type 0} (n : ℕ) (d : A) (f : ℕ → A) (y : ℕ) (a : ℕ → A) where
+  abbrev pub dealt : ℕ → ℕ → ℕ → A
+  dealt m = spread n d (first f (56 + y) a m)
+
+  pub dealt-none : (z j : ℕ) → spread n d f z j ≡ dealt 0 z j
+  dealt-none z j = sym (spread-same n d f (first f (56 + y) a 0) (λ i _. sym (first-none f (56 + y) a i)) z j)
+
+  -- a slot of a cell that is not given anything yet
+  pub dealt-left : (m z : ℕ) → 8 ≤ z → m < 64 → In n z m → dealt m z m ≡ f (64 * (56 + z) + m)
+  dealt-left m z h l i =
+      let w : wordOf z m ≡ 64 * (56 + z) + m = omega (arith, word-cell z m h) in
+      spread-in n d (first f (56 + y) a m) i ∙ ap (first f (56 + y) a m) w ∙ first-left f (56 + y) a m (56 + z) l
+
+  -- one more
+  pub dealt-more : 8 ≤ y → (m : ℕ) → m < 64 → In n y m → (z j : ℕ) → at2 (dealt m) y m (a m) z j ≡ dealt (suc m) z j
+  dealt-more hy m l iy z j =
+      let w : 64 * (56 + y) + m ≡ wordOf y m = omega (arith, word-cell y m hy) in
+      sym (spread-one n d (first f (56 + y) a m) (first f (56 + y) a (suc m)) y m (a m) iy (λ i _.
+      sym (first-more f (56 + y) a m l i) ∙ ap (λ (t : ℕ). cond (eqb i t) (a m) (first f (56 + y) a m i)) w) z j)
+
+  pub dealt-all : (f' : ℕ → A) → ((i : ℕ) → i < slotsLength n → f' i ≡ cond (eqb (i / 64) (56 + y)) (a (i % 64)) (f i)) → (z j : ℕ) → spread n d f' z j ≡ dealt 64 z j
+  dealt-all f' h = spread-same n d (first f (56 + y) a 64) f' (λ i l. h i l ∙ sym (first-all f (56 + y) a i))
+
+-- the same with what op makes of them and of those of cell x, which may be y
 module _ {A : Type 0} (n : ℕ) (d : A) (op : A → A → A) (f : ℕ → A) (x y : ℕ) where
   abbrev made : ℕ → A
   made r = op (f (64 * (56 + y) + r)) (f (64 * (56 + x) + r))
 
   abbrev pub blent : ℕ → ℕ → ℕ → A
-  blent m = spread n d (first f (56 + y) made m)
+  blent m = dealt n d f y made m
 
   pub blent-none : (z j : ℕ) → spread n d f z j ≡ blent 0 z j
-  blent-none z j = sym (spread-same n d f (first f (56 + y) made 0) (λ i _. sym (first-none f (56 + y) made i)) z j)
+  blent-none = dealt-none n d f y made
 
-  -- a slot that is not given anything yet
-  blent-left : (m z : ℕ) → 8 ≤ z → m < 64 → In n z m → blent m z m ≡ f (64 * (56 + z) + m)
-  blent-left m z h l i =
-      let w : wordOf z m ≡ 64 * (56 + z) + m = omega (arith, word-cell z m h) in
-      spread-in n d (first f (56 + y) made m) i ∙ ap (first f (56 + y) made m) w ∙ first-left f (56 + y) made m (56 + z) l
-
-  -- one more
   pub blent-more : 8 ≤ x → 8 ≤ y → (m : ℕ) → m < 64 → In n x m → In n y m → (z j : ℕ) → at2 (blent m) y m (op (blent m y m) (blent m x m)) z j ≡ blent (suc m) z j
   blent-more hx hy m l ix iy z j =
-      let w : 64 * (56 + y) + m ≡ wordOf y m = omega (arith, word-cell y m hy) in
-      (λ i. at2 (blent m) y m (op (blent-left m y hy l iy i) (blent-left m x hx l ix i)) z j)
-      ∙ sym (spread-one n d (first f (56 + y) made m) (first f (56 + y) made (suc m)) y m (made m) iy (λ i _.
-      sym (first-more f (56 + y) made m l i) ∙ ap (λ (t : ℕ). cond (eqb i t) (made m) (first f (56 + y) made m i)) w) z j)
+      (λ i. at2 (blent m) y m (op (dealt-left n d f y made m y hy l iy i) (dealt-left n d f y made m x hx l ix i)) z j) ∙ dealt-more n d f y made hy m l iy z j
 
   pub blent-all : (f' : ℕ → A) → ((i : ℕ) → i < slotsLength n → f' i ≡ cond (eqb (i / 64) (56 + y)) (made (i % 64)) (f i)) → (z j : ℕ) → spread n d f' z j ≡ blent 64 z j
-  blent-all f' h = spread-same n d (first f (56 + y) made 64) f' (λ i l. h i l ∙ sym (first-all f (56 + y) made i))
+  blent-all = dealt-all n d f y made
+
+-- the place of a value of cell y in the masks, and in their half for values
+pub value-place : (n y r : ℕ) → 8 ≤ y → 64 * (128 + n + (y - 8)) + r ≡ 64 * (64 + n) + (64 * (56 + y) + r)
+value-place n y r h = omega arith
 
 -- the words and the values of the leaf, by the promises about them; the other bits are b
+module _ (n y : ℕ) (hy : 8 ≤ y) where
+  pub dealt-values : (a : ℕ → Bool) (m m' : List ℕ) (b : ℕ → Bool)
+      → ((j : ℕ) → bitOf m' j ≡ cond (eqb (j / 64) (128 + n + (y - 8))) (a (j % 64)) (b j))
+      → ((i : ℕ) → b (64 * (64 + n) + i) ≡ bitOf m (64 * (64 + n) + i))
+      → (z j : ℕ) → spread n false (λ i. bitOf m' (64 * (64 + n) + i)) z j ≡ dealt n false (λ i. bitOf m (64 * (64 + n) + i)) y a 64 z j
+  dealt-values a m m' b q r = dealt-all n false (λ i. bitOf m (64 * (64 + n) + i)) y a (λ i. bitOf m' (64 * (64 + n) + i)) (λ i _. q (64 * (64 + n) + i) ∙ value i)
+    where
+      value : (i : ℕ) → cond (eqb ((64 * (64 + n) + i) / 64) (128 + n + (y - 8))) (a ((64 * (64 + n) + i) % 64)) (b (64 * (64 + n) + i)) ≡ cond (eqb (i / 64) (56 + y)) (a (i % 64)) (bitOf m (64 * (64 + n) + i))
+      value i = elim (is-or-not (i / 64) (56 + y)) [
+        | inl e ↦
+            let w : (64 * (64 + n) + i) % 64 ≡ i % 64 = omega arith in
+            rw (eq-eqb ((64 * (64 + n) + i) / 64) (128 + n + (y - 8)) (omega arith), eq-eqb (i / 64) (56 + y) e) (ap a w)
+        | inr e ↦ rw (ne-eqb ((64 * (64 + n) + i) / 64) (128 + n + (y - 8)) (λ q. e (omega arith)), ne-eqb (i / 64) (56 + y) e) (r i)
+      ]
+
 module _ (n x y : ℕ) (hx : 8 ≤ x) (hy : 8 ≤ y) where
   pub leaf-words : (op : ℕ → ℕ → ℕ) (l l' : List ℕ)
       → ((i : ℕ) → getD l' i 0 ≡ cond (eqb (i / 64) (64 + (y - 8))) (op (getD l (64 * (64 + (y - 8)) + i % 64) 0) (getD l (64 * (64 + (x - 8)) + i % 64) 0)) (getD l i 0))
@@ -152,17 +185,9 @@ module _ (n x y : ℕ) (hx : 8 ≤ x) (hy : 8 ≤ y) where
       → ((j : ℕ) → bitOf m' j ≡ cond (eqb (j / 64) (128 + n + (y - 8))) (op (bitOf m (64 * (128 + n + (y - 8)) + j % 64)) (bitOf m (64 * (128 + n + (x - 8)) + j % 64))) (b j))
       → ((i : ℕ) → b (64 * (64 + n) + i) ≡ bitOf m (64 * (64 + n) + i))
       → (z j : ℕ) → spread n false (λ i. bitOf m' (64 * (64 + n) + i)) z j ≡ blent n false op (λ i. bitOf m (64 * (64 + n) + i)) x y 64 z j
-  leaf-values op m m' b q r = blent-all n false op (λ i. bitOf m (64 * (64 + n) + i)) x y (λ i. bitOf m' (64 * (64 + n) + i)) (λ i _. q (64 * (64 + n) + i) ∙ value i)
-    where
-      value : (i : ℕ) → cond (eqb ((64 * (64 + n) + i) / 64) (128 + n + (y - 8))) (op (bitOf m (64 * (128 + n + (y - 8)) + (64 * (64 + n) + i) % 64)) (bitOf m (64 * (128 + n + (x - 8)) + (64 * (64 + n) + i) % 64))) (b (64 * (64 + n) + i))
-          ≡ cond (eqb (i / 64) (56 + y)) (op (bitOf m (64 * (64 + n) + (64 * (56 + y) + i % 64))) (bitOf m (64 * (64 + n) + (64 * (56 + x) + i % 64)))) (bitOf m (64 * (64 + n) + i))
-      value i = elim (is-or-not (i / 64) (56 + y)) [
-        | inl e ↦
-            let wx : 64 * (128 + n + (x - 8)) + (64 * (64 + n) + i) % 64 ≡ 64 * (64 + n) + (64 * (56 + x) + i % 64) = omega arith in
-            let wy : 64 * (128 + n + (y - 8)) + (64 * (64 + n) + i) % 64 ≡ 64 * (64 + n) + (64 * (56 + y) + i % 64) = omega arith in
-            rw (eq-eqb ((64 * (64 + n) + i) / 64) (128 + n + (y - 8)) (omega arith), eq-eqb (i / 64) (56 + y) e) (λ z. op (bitOf m (wy z)) (bitOf m (wx z)))
-        | inr e ↦ rw (ne-eqb ((64 * (64 + n) + i) / 64) (128 + n + (y - 8)) (λ q. e (omega arith)), ne-eqb (i / 64) (56 + y) e) (r i)
-      ]
+  leaf-values op m m' b q r =
+      dealt-values n y hy (made n false op (λ i. bitOf m (64 * (64 + n) + i)) x y) m m' b (λ j.
+      q j ∙ (λ z. cond (eqb (j / 64) (128 + n + (y - 8))) (op (bitOf m (value-place n y (j % 64) hy z)) (bitOf m (value-place n x (j % 64) hx z))) (b j))) r
 
 -- ---- a leaf copied
 module _ (n : ℕ) (sl mk book : List ℕ) (x y : ℕ) (hx : 8 ≤ x) (hy : 8 ≤ y) (nx : x < 8 + n) (ny : y < 8 + n) where

@@ -26,9 +26,9 @@ module _ (n l x : ℕ) (s : St) where
     pub fill-go : {c : ℕ} {t' : St} → r ≡ Go c → r ≡ childR n t x k → t' ≡ fillSignsM (branching (l - 1)) (below (l - 1)) n (8 + c) t → t' ≡ eachS (under n l x) (k + 1) s
     fill-go d e q = each-more (under n l x) s k p (by-go n t x k (λ c. fillSignsM (branching (l - 1)) (below (l - 1)) n (8 + c) t) t d e q)
 
-  pub fill-leaf : {t : St} → l ≡ 0 → t ≡ rowsM (branching l) (below l) n x s → t ≡ fillSignsM (branching l) (below l) n x s
+  pub fill-leaf : {t : St} → l ≡ 0 → t ≡ rowsM (branching 0) (below 0) n x s → t ≡ fillSignsM (branching l) (below l) n x s
   unfolding fillSignsM
-  fill-leaf z p = p ∙ ap (λ (i : ℕ). rowsM (branching i) (below i) n x s) z ∙ ap (λ (i : ℕ). fillSignsM (branching i) (below i) n x s) (sym z)
+  fill-leaf z p = p ∙ ap (λ (i : ℕ). fillSignsM (branching i) (below i) n x s) (sym z)
 
   pub fill-all : (k : ℕ) {t t' : St} → (l ≡ 0 → ⊥) → k ≡ size (branching l) → t ≡ eachS (under n l x) k s → t' ≡ rowsM (branching l) (below l) n x t → t' ≡ fillSignsM (branching l) (below l) n x s
   unfolding fillSignsM

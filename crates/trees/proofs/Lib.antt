@@ -3,6 +3,7 @@ pub mod Slots
 pub mod Turns
 pub mod SignAt
 pub mod Rows
+pub mod LeafRows
 pub mod Fills
 pub mod Counts
 pub mod Copies

@@ -44,6 +44,9 @@ module _ {A : Type 0} (n : ℕ) (s : St) (x k : ℕ) (f : ℕ → A) (a : A) {v 
   by-go d e p = p ∙ ap f (child-go n s x k (sym d ∙ e) .there) ∙ sym (rw (child-go n s x k (sym d ∙ e) .on) refl)
 
 -- ---- above the leaves
+pub no-leaf : {l : ℕ} → 0 < l → l ≡ 0 → ⊥
+no-leaf h e = omega arith
+
 module _ (n : ℕ) (s : St) (x k : ℕ) where
   sign-up : (l : ℕ) → (l ≡ 0 → ⊥) → cond (childS n s x k) (signS (below (l - 1)) n s (8 + s .slot x k) 0) (negative (s .slot x k)) ≡ signS (below l) n s x k
   unfolding signS
@@ -60,9 +63,6 @@ module _ (n : ℕ) (s : St) (l x k : ℕ) {v : Bool} where
   pub sign-leaf : l ≡ 0 → v ≡ negative (s .slot x k) → v ≡ signS (below l) n s x k
   unfolding signS
   sign-leaf z p = p ∙ ap (λ (i : ℕ). signS (below i) n s x k) (sym z)
-
-  pub behind-leaf : (g : Bool) → l ≡ 0 → v ≡ behindS (below 0) n s x k g → v ≡ behindS (below l) n s x k g
-  behind-leaf g z p = p ∙ ap (λ (i : ℕ). behindS (below i) n s x k g) (sym z)
 
   module _ (h : l ≡ 0 → ⊥) {r : Below} where
     pub sign-flat : r ≡ Stop → r ≡ childR n s x k → v ≡ negative (s .slot x k) → v ≡ signS (below l) n s x k
@@ -105,6 +105,12 @@ module _ (bs : List ℕ) (n : ℕ) (s : St) (x m k : ℕ) {r : Bool} (p : r ≡ 
 
     pub start-found : not h ≡ true → {v : Bool} → v ≡ signS bs n s x k → v ≡ r
     start-found d q = q ∙ sym (start-by ∙ rw (not-true h d) refl)
+
+pub start-past : (bs : List ℕ) (n : ℕ) (s : St) (x m k : ℕ) → k ≤ m → ((j : ℕ) → j < k → true ≡ hiddenS bs s x j) → startS bs n s x 0 m ≡ startS bs n s x k (m - k)
+start-past bs n s x m zero l q = start-first bs n s x m
+start-past bs n s x m (suc k) l q =
+    start-on bs n s x m k (start-past bs n s x m k (omega arith) (λ j h. q j (omega arith))) (omega arith) (q k (omega arith)) refl
+    ∙ ap (λ (i : ℕ). startS bs n s x i (m - i)) (add-one k)
 
 -- ---- a hidden slot is written
 module _ (bs : List ℕ) (x k : ℕ) (g : Bool) (s : St) {h : Bool} (e : h ≡ hiddenS bs s x k) where

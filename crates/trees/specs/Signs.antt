@@ -1,10 +1,13 @@
 -- The sign fill, slot by slot and child first, on any state, sound or not. A sign is carried along three rows: true is negative. Assumes nothing.
+use mathlib.Core.Path.{_≡_}
 use mathlib.Core.Bool.{Bool, false, cond}
 use mathlib.Core.List.{List, [], _∷_}
-use Prim.Native.Nat.{ℕ, zero, suc, _+_, _*_, _^_}
+use Prim.Native.Nat.{ℕ, zero, suc, _+_, _*_, _^_, _<_, _≤_}
+use lib.ListN.{length, getD}
 use Rattle.floats.specs.Value.{negative, farWith}
 use Rattle.grid.specs.Node.{size}
 use Rattle.nodes.specs.State.{St}
+use Rattle.nodes.specs.Layout.{st, slotsLength}
 use Rattle.nodes.specs.Each.{eachS}
 use Rattle.trees.specs.Slot.{childS, hiddenS, wordS}
 
@@ -63,3 +66,29 @@ downS go n x k s = cond (childS n s x k) (go (8 + s .slot x k) s) s
 unfoldable pub fillSignsM : (b : ℕ) (bs : List ℕ) → ℕ → ℕ → St → St
 fillSignsM b [] n x s = rowsM b [] n x s
 fillSignsM b (c ∷ bs) n x s = rowsM b (c ∷ bs) n x (eachS (downS (fillSignsM c bs n) n x) (size b) s)
+
+-- ---- a leaf as one piece: its words are those from place p on, v has its value bits, and a sign is the far word w that has it
+
+-- the words are there
+pub record Room (p : ℕ) (slots : List ℕ) : Type 0 where
+  pub low : p < 0x1_0000_0000
+  pub there : p + 64 ≤ length slots
+
+pub record LeafAt (n x p v : ℕ) (slots masks : List ℕ) : Type 0 where
+  pub cell : 8 ≤ x
+  pub node : x < 8 + n
+  pub fit : length slots ≡ slotsLength n
+  pub words : p ≡ 3584 + 64 * x
+  pub values : v ≡ getD masks (120 + n + x) 0
+
+-- w has the sign from which the rows start
+abbrev pub LeafStart : ℕ → ℕ → List ℕ → ℕ → Type 0
+LeafStart p v slots w = (n x : ℕ) (masks book : List ℕ) → LeafAt n x p v slots masks → w ≡ farWith (startS [] n (st n slots masks book) x 0 (size 2))
+
+-- w' has the sign that f gives, from that of w
+abbrev pub LeafSign : (ℕ → St → ℕ → Bool → Bool) → ℕ → ℕ → ℕ → List ℕ → ℕ → Type 0
+LeafSign f p v w slots w' = (n x : ℕ) (masks book : List ℕ) (g : Bool) → LeafAt n x p v slots masks → w ≡ farWith g → w' ≡ farWith (f n (st n slots masks book) x g)
+
+-- the words have become what f makes of them, from the sign of w
+abbrev pub LeafDone : (ℕ → ℕ → Bool → St → St) → ℕ → ℕ → ℕ → List ℕ → List ℕ → Type 0
+LeafDone f p v w slots slots' = (n x : ℕ) (masks book : List ℕ) (g : Bool) → LeafAt n x p v slots masks → w ≡ farWith g → st n slots' masks book ≡ f n x g (st n slots masks book)

@@ -14,9 +14,13 @@ use Rattle.trees.specs.Slot.{childS, wordS}
 use Rattle.trees.specs.declared.turn.Work.{Work}
 use Rattle.trees.specs.declared.turn.Work.the-variants.{Prune, Cut, Flip}
 
+-- a word that is finite and passes
+abbrev pub cuts : Test → ℕ → Bool
+cuts t w = isFinite w && passes t w
+
 -- slot k of node x, which is no branch, is hidden if it is active and passes
 unfoldable pub hideIfS : Test → ℕ → ℕ → St → St
-hideIfS t x k s = cond (s .val x k && (isFinite (s .slot x k) && passes t (s .slot x k))) (hideS x k s) s
+hideIfS t x k s = cond (s .val x k && cuts t (s .slot x k)) (hideS x k s) s
 
 -- at slot k of node x, which is no branch: "Active slots that pass are hidden"; "Flip negates every value, hidden ones too"
 unfoldable pub flatS : Work → ℕ → ℕ → St → St

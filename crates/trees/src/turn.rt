@@ -3,21 +3,36 @@ use super::slot;
 use floats::Test;
 use nodes::geometry;
 use nodes::memory;
+use nodes::memory::BOTH_TOP_MASKS;
+use nodes::memory::CELL;
+use nodes::memory::TOPS;
 use nodes::remove;
 use nodes::walk::Below;
 ghost use mathlib.Core.Path.{_≡_};
+ghost use mathlib.Core.Bool.{cond, not, _&&_};
 ghost use mathlib.Core.List.{List};
-ghost use Prim.Native.Nat.{ℕ, _-_, _<_};
-ghost use Rattle.nodes.specs.Layout.{Sized, st};
-ghost use Rattle.nodes.specs.Range.{In, Stands, Cells};
+ghost use Prim.Native.Nat.{ℕ, _+_, _-_, _*_, _/_, _%_, _<_, _≤_};
+ghost use lib.ListN.{length, getD};
+ghost use lib.Dec.{eqb};
+ghost use Rattle.bitset.specs.Set.{bitOf, wordBit};
+ghost use Rattle.floats.specs.Value.{negated};
+ghost use Rattle.nodes.specs.Layout.{Sized, st, slotsLength};
+ghost use Rattle.nodes.specs.Range.{In, Stands, Cells, Masked};
 ghost use Rattle.nodes.specs.Walk.{branching, below};
-ghost use Rattle.trees.specs.Turn.{hideIfS, flatS, backS, turnAt, turnM};
+ghost use Rattle.trees.specs.Turn.{cuts, hideIfS, flatS, backS, turnAt, turnM};
 
 // What is done to every slot of a node and of all that hangs below it.
 pub enum Work {
     Prune,
     Cut(Test),
     Flip,
+}
+
+// A word that is finite and passes the test.
+fn cuts(t: Test, w: u32) -> bool
+    ensures { λ r. ⌜ r ≡ cuts t w ⌝ }
+{
+    floats::finite_word(w) && floats::passed(t, w)
 }
 
 // Slot k of node x, which is no branch, is hidden if it is active and passes the test. The promise holds whatever the book.
@@ -28,11 +43,7 @@ fn hide_if(slots: &[u32], masks: &mut [u64], n: usize, x: usize, k: usize, t: Te
     if !memory::val(masks, n, x, k) {
         return;
     }
-    let w = memory::word(slots, x, k);
-    if !floats::finite_word(w) {
-        return;
-    }
-    if floats::passed(t, w) {
+    if cuts(t, memory::word(slots, x, k)) {
         remove::hide(masks, n, x, k);
     }
 }
@@ -58,15 +69,72 @@ fn flat(slots: &mut [u32], masks: &mut [u64], n: usize, x: usize, k: usize, work
     }
 }
 
-// What is done at every slot of leaf x.
+// The 64 words of cell c, each with the other sign.
+fn flip_words(slots: &mut [u32], c: usize)
+    requires { ⌜ (c < 65536) × (slotsLength (c + 1) ≤ length (now slots)) ⌝ }
+    ensures { λ _. ⌜ ((i : ℕ) → getD (now (slots .exit)) i 0
+        ≡ cond (eqb (i / 64) (64 + c)) (negated (getD (now (slots .entry)) (64 * (64 + c) + i % 64) 0)) (getD (now (slots .entry)) i 0)) ⌝ }
+{
+    let a = TOPS + CELL * c;
+    let mut i = 0;
+    while i < CELL {
+        slots[a + i] = floats::negated_word(slots[a + i]);
+        i += 1;
+    }
+}
+
+// The bit of slot i, if its word is cut.
+fn cut_bit(t: Test, w: u32, i: usize) -> u64
+    ensures { λ r. ⌜ ((k : ℕ) → wordBit r k ≡ cuts t w && eqb (k % 64) (i % 64)) ⌝ }
+{
+    if cuts(t, w) {
+        return bitset::value_mask(i);
+    }
+    0
+}
+
+// The bits of the slots of cell c whose words are cut.
+fn cut_bits(slots: &[u32], c: usize, t: Test) -> u64
+    requires { ⌜ (c < 65536) × (slotsLength (c + 1) ≤ length (now slots)) ⌝ }
+    ensures { λ r. ⌜ ((k : ℕ) → wordBit r k ≡ cuts t (getD (now (slots .entry)) (64 * (64 + c) + k % 64) 0)) ⌝ }
+{
+    let a = TOPS + CELL * c;
+    let mut bits = 0;
+    let mut i = 0;
+    while i < CELL {
+        bits = bits | cut_bit(t, slots[a + i], i);
+        i += 1;
+    }
+    bits
+}
+
+// The values of cell c without those of the bits.
+fn drop_values(masks: &mut [u64], n: usize, c: usize, bits: u64)
+    requires { ⌜ (Masked n (now masks)) × (c < n) ⌝ }
+    ensures { λ _. ⌜ ((j : ℕ) → bitOf (now (masks .exit)) j
+        ≡ cond (eqb (j / 64) (128 + n + c)) (bitOf (now (masks .entry)) (64 * (128 + n + c) + j % 64) && not (wordBit bits j)) (bitOf (now (masks .entry)) j)) ⌝ }
+{
+    masks[BOTH_TOP_MASKS + n + c] = masks[BOTH_TOP_MASKS + n + c] & !bits;
+}
+
+// What is done at every slot of leaf x, as one piece. A prune does nothing there.
 fn leaf(slots: &mut [u32], masks: &mut [u64], n: usize, x: usize, work: Work)
     requires { ⌜ (Cells n (now slots) (now masks)) × Stands n 0 x ⌝ }
     ensures { λ _. ⌜ ((book : List ℕ) → st n (now (slots .exit)) (now (masks .exit)) book ≡ turnM (branching 0) (below 0) work n x (st n (now (slots .entry)) (now (masks .entry)) book)) ⌝ }
 {
-    let mut k = 0;
-    while k < 64 {
-        flat(slots, masks, n, x, k, work);
-        k += 1;
+    match work {
+        Work::Prune => {
+            return;
+        }
+        Work::Cut(t) => {
+            let bits = cut_bits(slots, x - 8, t);
+            drop_values(masks, n, x - 8, bits);
+            return;
+        }
+        Work::Flip => {
+            flip_words(slots, x - 8);
+            return;
+        }
     }
 }
 
@@ -109,6 +177,11 @@ fn turn_slot(
         flat(slots, masks, n, x, k, work);
         return;
     };
+    if level == 1 {
+        leaf(slots, masks, n, 8 + c, work);
+        back(slots, masks, book, n, 0, x, k, work);
+        return;
+    }
     turn(slots, masks, book, n, level - 1, 8 + c, work);
     back(slots, masks, book, n, level - 1, x, k, work);
 }

@@ -1,6 +1,5 @@
-use mathlib.Core.Logic.{inr}
 use Rattle.floats.specs.Value.{farWith}
-use Rattle.pool.proofs.Ready.{ready}
+use Rattle.pool.proofs.Ready.{ready, cells-kept}
 use borrow.Author.Needs.{needs}
 use Rattle.pool.proofs.prepare.prepare.Statement.{statement}
 use Rattle.pool.proofs.prepare.prepare.Tie as tie
@@ -32,7 +31,7 @@ returns c =
     let b = c .before .before in
     let m = b .before .before .before .before in
     let f = m .before .before .before .before in
-    (ready _ _ (f .before .far-word .ensures) (f .fill .ensures) (m .empty-tops .ensures) (b .free-all .ensures), λ i h. f .fill .ensures .other i (inr h))
+    (ready _ _ (f .before .far-word .ensures) (f .fill .ensures) (m .empty-tops .ensures) (b .free-all .ensures), cells-kept _ _ _ _ (f .fill .ensures) (m .empty-tops .ensures))
 
 pub prepare-spec : {M : Type 1} → statement M
 prepare-spec =

@@ -2,8 +2,9 @@ use Prim.Native.Nat.{ℕ, _-_, _≤_, _<_}
 use mathlib.Core.Path.{_≡_}
 use mathlib.Core.Bool.{true}
 use native.Mathlib.Omega.{arith}
-use borrow.Author.Count.{below-none, below-more}
+use borrow.Author.Count.{below-more}
 use borrow.Author.Needs.{needs}
+use Rattle.bitset.proofs.Every.{every-elim}
 use Rattle.nodes.specs.Layout.{st}
 use Rattle.nodes.specs.Test.{cellB}
 use Rattle.pool.proofs.Checks.{passed, failed, all-pass, one-fails}
@@ -11,13 +12,13 @@ use Rattle.pool.proofs.test.all_cells.Statement.{statement}
 use Rattle.pool.proofs.test.all_cells.Tie as tie
 
 abbrev Inv-loop : tie.InvT-loop
-Inv-loop slots masks book n c₀ c = (c ≤ n) × ((i : ℕ) → i < c → cellB n (st n slots masks book) i ≡ true)
+Inv-loop slots masks book n from c₀ c = (c ≤ n) × ((i : ℕ) → i < c → cellB n (st n slots masks book) i ≡ true)
 
 abbrev μ-loop : tie.MeasureT-loop
-μ-loop slots masks book n c₀ c = n - c
+μ-loop slots masks book n from c₀ c = n - c
 
 loop-holds : tie.Need-loop-holds Inv-loop μ-loop
-loop-holds c = (omega arith, below-none _)
+loop-holds c = (omega arith, every-elim _ _ (c .before .before .before .pre .3))
 
 cell-requires : tie.Need-cell-requires Inv-loop μ-loop
 cell-requires c κs = search needs

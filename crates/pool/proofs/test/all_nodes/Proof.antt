@@ -1,9 +1,10 @@
-use Prim.Native.Nat.{ℕ, _+_, _-_, _≤_, _<_}
+use Prim.Native.Nat.{ℕ, _-_, _≤_, _<_}
 use mathlib.Core.Path.{_≡_}
 use mathlib.Core.Bool.{true}
 use native.Mathlib.Omega.{arith}
-use borrow.Author.Count.{below-none, below-more}
+use borrow.Author.Count.{below-more}
 use borrow.Author.Needs.{needs}
+use Rattle.bitset.proofs.Every.{every-elim}
 use Rattle.nodes.specs.Layout.{st}
 use Rattle.nodes.specs.Test.{nodeB}
 use Rattle.pool.proofs.Checks.{passed, failed, all-pass, one-fails}
@@ -11,16 +12,13 @@ use Rattle.pool.proofs.test.all_nodes.Statement.{statement}
 use Rattle.pool.proofs.test.all_nodes.Tie as tie
 
 abbrev Inv-loop : tie.InvT-loop
-Inv-loop slots masks book n m x₀ x = (x ≤ 8 + n) × ((i : ℕ) → i < x → nodeB n (st n slots masks book) i ≡ true)
+Inv-loop slots masks book n from to x₀ x = (x ≤ to) × ((i : ℕ) → i < x → nodeB n (st n slots masks book) i ≡ true)
 
 abbrev μ-loop : tie.MeasureT-loop
-μ-loop slots masks book n m x₀ x = 8 + n - x
-
-add-m : tie.Need-add-m Inv-loop μ-loop
-add-m c = omega arith
+μ-loop slots masks book n from to x₀ x = to - x
 
 loop-holds : tie.Need-loop-holds Inv-loop μ-loop
-loop-holds c = (omega arith, below-none _)
+loop-holds c = (omega arith, every-elim _ _ (c .before .before .before .pre .3))
 
 node-requires : tie.Need-node-requires Inv-loop μ-loop
 node-requires c κs = search needs
@@ -46,7 +44,6 @@ all-nodes-spec =
     (tie.spec
     Inv-loop
     μ-loop
-    add-m
     loop-holds
     node-requires
     returns

@@ -4,8 +4,9 @@ use mathlib.Core.Bool.{true}
 use mathlib.Core.List.{List}
 use native.Mathlib.Omega.{arith}
 use lib.ListN.{getD}
-use borrow.Author.Count.{below-none, below-more}
+use borrow.Author.Count.{below-more}
 use borrow.Author.Needs.{needs}
+use Rattle.bitset.proofs.Every.{every-elim}
 use Rattle.nodes.specs.Layout.{st, countPlace}
 use Rattle.nodes.specs.Test.{stackedB}
 use Rattle.pool.proofs.Checks.{passed, failed, all-pass, one-fails}
@@ -13,16 +14,16 @@ use Rattle.pool.proofs.test.all_stacked.Statement.{statement}
 use Rattle.pool.proofs.test.all_stacked.Tie as tie
 
 abbrev Inv-loop : tie.InvT-loop
-Inv-loop book n m i₀ i = (i ≤ getD book countPlace 0) × ((slots masks : List ℕ) (k : ℕ) → k < i → stackedB n (st n slots masks book) k ≡ true)
+Inv-loop book n from m i₀ i = (i ≤ getD book countPlace 0) × ((slots masks : List ℕ) (k : ℕ) → k < i → stackedB n (st n slots masks book) k ≡ true)
 
 abbrev μ-loop : tie.MeasureT-loop
-μ-loop book n m i₀ i = getD book countPlace 0 - i
+μ-loop book n from m i₀ i = getD book countPlace 0 - i
 
 count-requires : tie.Need-count-requires Inv-loop μ-loop
 count-requires c κs = search needs
 
 loop-holds : tie.Need-loop-holds Inv-loop μ-loop
-loop-holds c = (omega arith, λ slots masks. below-none _)
+loop-holds c = (omega arith, λ slots masks. every-elim _ _ (c .before .before .pre .3 slots masks))
 
 stacked-requires : tie.Need-stacked-requires Inv-loop μ-loop
 stacked-requires c κs = search needs

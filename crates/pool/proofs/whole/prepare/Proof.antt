@@ -37,7 +37,7 @@ returns-2 c =
     let l = p .prepare .last in
     let k = p .prepare .kept in
     prepare-says (memOf (a .slots .now) (a .masks .now) (a .book .now)) (memOf (l .0) (l .1 .0) (l .1 .1 .0)) _ (f .before .cells .ensures) (f .if1 .left)
-    (p .prepare .ensures .0) (k .0) (k .1 .0) (k .1 .1 .0)
+    (p .prepare .ensures .0) (p .prepare .ensures .1) (k .0) (k .1 .0) (k .1 .1 .0)
 
 pub prepare-spec : {M : Type 1} → statement M
 prepare-spec =

@@ -11,12 +11,14 @@ use Rattle.nodes.specs.Each.{eachS}
 use Rattle.nodes.proofs.Each.{each-none}
 use Rattle.nodes.proofs.Paths.{slot-of, stands-below}
 use Rattle.trees.proofs.Slots.{child-low}
+use Rattle.trees.proofs.Turns.{leaf-stands}
 use Rattle.trees.proofs.Rows.{slots-kept}
 use Rattle.trees.proofs.Fills.{under, fill-stop, fill-go, fill-leaf, fill-all}
 use Rattle.trees.proofs.signs.fill_signs.Reads as fill-signs
 use Rattle.trees.proofs.signs.fill_signs.Kinds as fill-signs-kinds
 use Rattle.trees.proofs.signs.+fill_signs.Lts-fill_signs as fill-signs-lts
 use Rattle.nodes.proofs.geometry.size_in.Reads as size-in-reads
+use Rattle.trees.proofs.signs.leaf_rows.Reads as leaf-rows-reads
 use Rattle.trees.proofs.signs.rows.Reads as rows-reads
 use Rattle.trees.proofs.slot.child.Reads as child-reads
 use Rattle.trees.proofs.signs.+fill_signs.{statement}
@@ -32,7 +34,7 @@ abbrev fill-signs-below : ℕ → In 2 fill-signs-kinds.ps
 fill-signs-below t = and 2 fill-signs-kinds.ps (falls 2 fill-signs-kinds.ps _<_ μ-fill-signs t) fill-signs.Pre
 
 abbrev claims : ℕ → fill-signs-lts.Claims
-claims t = (rows-reads.Asked, rows-reads.Learnt, size-in-reads.Asked, size-in-reads.Learnt, child-reads.Asked, child-reads.Learnt, fill-signs-below t, fill-signs.Post)
+claims t = (leaf-rows-reads.Asked, leaf-rows-reads.Learnt, size-in-reads.Asked, size-in-reads.Learnt, child-reads.Asked, child-reads.Learnt, fill-signs-below t, fill-signs.Post, rows-reads.Asked, rows-reads.Learnt)
 
 abbrev Inv-loop : fill-signs-lts.InvT-loop
 Inv-loop slots₀ masks n level x m k₀ slots k = (k ≤ m) × (Cells n slots masks)
@@ -41,16 +43,16 @@ Inv-loop slots₀ masks n level x m k₀ slots k = (k ≤ m) × (Cells n slots m
 abbrev μ-loop : fill-signs-lts.MeasureT-loop
 μ-loop slots₀ masks n level x m k₀ slots k = m - k
 
-fill-signs-rows-requires : (t : ℕ) → fill-signs-lts.Need-rows-requires (claims t) (fill-signs-at t) fill-signs.Post Inv-loop μ-loop
-fill-signs-rows-requires t c κs = let p = c .before .before .before .before .pre .1 in (p .0, p .1)
+fill-signs-leaf-rows-requires : (t : ℕ) → fill-signs-lts.Need-leaf-rows-requires (claims t) (fill-signs-at t) fill-signs.Post Inv-loop μ-loop
+fill-signs-leaf-rows-requires t c κs = let p = c .before .before .before .before .pre .1 in (p .0, leaf-stands (p .1) (c .before .if1 .taken))
 
 fill-signs-same-length : (t : ℕ) → fill-signs-lts.Need-same-length (claims t) (fill-signs-at t) fill-signs.Post Inv-loop μ-loop
-fill-signs-same-length t c = c .before .before .rows .kept .0
+fill-signs-same-length t c = c .before .before .leaf-rows .kept .0
 
 fill-signs-returns : (t : ℕ) → fill-signs-lts.Need-returns (claims t) (fill-signs-at t) fill-signs.Post Inv-loop μ-loop
 fill-signs-returns t c = λ book.
     let d = c .before .before .before .before in
-    fill-leaf _ (d .before .before .before .args .level) _ _ (d .if1 .taken) (c .before .before .rows .ensures book)
+    fill-leaf _ (d .before .before .before .args .level) _ _ (d .if1 .taken) (c .before .before .leaf-rows .ensures book)
 
 fill-signs-size-in-requires : (t : ℕ) → fill-signs-lts.Need-size-in-requires (claims t) (fill-signs-at t) fill-signs.Post Inv-loop μ-loop
 fill-signs-size-in-requires t c κs = c .before .before .before .pre .1 .1 .known
@@ -120,20 +122,23 @@ fill-signs-loop-again-2 t c =
       λ book. fill-go _ (l .before .before .before .before .before .args .level) _ _ _ (l .loop .inv .2 book) (g .c .given .1) (d .child .ensures book) (f .fill-signs .ensures book),
     )
 
-fill-signs-rows-requires-2 : (t : ℕ) → fill-signs-lts.Need-rows-requires-2 (claims t) (fill-signs-at t) fill-signs.Post Inv-loop μ-loop
-fill-signs-rows-requires-2 t c κs = let l = c .before .before in (l .loop .inv .1, l .before .before .before .before .before .pre .1 .1)
+fill-signs-rows-requires : (t : ℕ) → fill-signs-lts.Need-rows-requires (claims t) (fill-signs-at t) fill-signs.Post Inv-loop μ-loop
+fill-signs-rows-requires t c κs =
+    let l = c .before .before in
+    let h = l .before .before .if1 .left in
+    (l .loop .inv .1, l .before .before .before .before .before .pre .1 .1, omega arith)
 
 fill-signs-same-length-2 : (t : ℕ) → fill-signs-lts.Need-same-length-2 (claims t) (fill-signs-at t) fill-signs.Post Inv-loop μ-loop
 fill-signs-same-length-2 t c =
     let l = c .before .before .before .before .before in
-    c .before .before .rows2 .kept .0 ∙ l .loop .inv .1 .slots-fit ∙ sym (l .before .before .before .before .before .pre .1 .0 .slots-fit)
+    c .before .before .rows .kept .0 ∙ l .loop .inv .1 .slots-fit ∙ sym (l .before .before .before .before .before .pre .1 .0 .slots-fit)
 
 fill-signs-returns-2 : (t : ℕ) → fill-signs-lts.Need-returns-2 (claims t) (fill-signs-at t) fill-signs.Post Inv-loop μ-loop
 fill-signs-returns-2 t c =
     λ book.
     let t = c .before .before .before .before in
     let l = t .before in
-    fill-all _ (l .before .before .before .before .before .args .level) _ _ _ (l .before .before .if1 .left) (omega (arith, t .loop-test .left, l .loop .inv .0, l .before .size-in .ensures)) (l .loop .inv .2 book) (c .before .before .rows2 .ensures book)
+    fill-all _ (l .before .before .before .before .before .args .level) _ _ _ (l .before .before .if1 .left) (omega (arith, t .loop-test .left, l .loop .inv .0, l .before .size-in .ensures)) (l .loop .inv .2 book) (c .before .before .rows .ensures book)
 
 pub +fill-signs-spec : {M : Type 1} → statement M
 +fill-signs-spec = close μ-fill-signs λ t. fill-signs-lts.spec (claims t)
@@ -141,7 +146,7 @@ pub +fill-signs-spec : {M : Type 1} → statement M
     fill-signs.Post
     Inv-loop
     μ-loop
-    (fill-signs-rows-requires t)
+    (fill-signs-leaf-rows-requires t)
     (fill-signs-same-length t)
     (fill-signs-returns t)
     (fill-signs-size-in-requires t)
@@ -158,6 +163,6 @@ pub +fill-signs-spec : {M : Type 1} → statement M
     (fill-signs-add-k-2 t)
     (fill-signs-loop-less-2 t)
     (fill-signs-loop-again-2 t)
-    (fill-signs-rows-requires-2 t)
+    (fill-signs-rows-requires t)
     (fill-signs-same-length-2 t)
     (fill-signs-returns-2 t)

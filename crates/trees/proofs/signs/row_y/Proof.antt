@@ -39,14 +39,14 @@ behind-requires c κs =
     let d = c .before .before .before in
     let b = d .before .before .before in
     let s = sides (b .args .level) (d .side-in .ensures) in
-    (c .before .before .loop .inv .1, b .pre .1, slot-of (b .pre .1) refl (omega (arith, b .pre .2, row-ends s (c .before .loop-test .taken))))
+    (c .before .before .loop .inv .1, b .pre .1, slot-of (b .pre .1) refl (omega (arith, b .pre .2, row-ends s (c .before .loop-test .taken))), b .pre .3)
 
 row-z-requires : tie.Need-row-z-requires Inv-loop μ-loop
 row-z-requires c κs =
     let l = c .before .before .before .before in
     let b = l .before .before .before .before in
     let s = sides (b .args .level) (l .before .side-in .ensures) in
-    (l .loop .inv .1, b .pre .1, omega (arith, b .pre .2, row-ends s (c .before .before .before .loop-test .taken)))
+    (l .loop .inv .1, b .pre .1, omega (arith, b .pre .2, row-ends s (c .before .before .before .loop-test .taken)), b .pre .3)
 
 add-y : tie.Need-add-y Inv-loop μ-loop
 add-y c = omega (arith, c .before .before .before .before .before .before .loop-test .taken)

@@ -35,7 +35,7 @@ behind-requires : tie.Need-behind-requires Inv-loop μ-loop
 behind-requires c κs =
     let d = c .before .before .before in
     let b = d .before .before .before in
-    (c .before .before .loop .inv .1, b .pre .1, slot-of (b .pre .1) refl (omega (arith, b .pre .2, c .before .loop-test .taken, d .side-in .ensures)))
+    (c .before .before .loop .inv .1, b .pre .1, slot-of (b .pre .1) refl (omega (arith, b .pre .2, c .before .loop-test .taken, d .side-in .ensures)), b .pre .3)
 
 write-requires : tie.Need-write-requires Inv-loop μ-loop
 write-requires c κs =

@@ -27,7 +27,7 @@ mul-w c =
     omega (arith, face-ends s (s .some))
 
 start-requires : tie.Need-start-requires Inv-loop μ-loop
-start-requires c κs = c .before .before .before .before .pre
+start-requires c κs = let p = c .before .before .before .before .pre in (p .0, p .1)
 
 loop-holds : tie.Need-loop-holds Inv-loop μ-loop
 loop-holds c = (omega arith, c .before .before .before .before .before .pre .0, λ book. carry-none _ _ _)
@@ -43,14 +43,14 @@ behind-requires c κs =
     let d = c .before .before .before .before .before in
     let b = d .before .before .before in
     let s = sides (b .args .level) (d .side-in .ensures) in
-    (c .before .before .loop .inv .1, b .pre .1, slot-of (b .pre .1) refl (omega (arith, face-ends s (c .before .loop-test .taken))))
+    (c .before .before .loop .inv .1, b .pre .1, slot-of (b .pre .1) refl (omega (arith, face-ends s (c .before .loop-test .taken))), b .pre .2)
 
 row-y-requires : tie.Need-row-y-requires Inv-loop μ-loop
 row-y-requires c κs =
     let l = c .before .before .before .before in
     let d = l .before .before .before in
     let b = d .before .before .before in
-    (l .loop .inv .1, b .pre .1, face-ends (sides (b .args .level) (d .side-in .ensures)) (c .before .before .before .loop-test .taken))
+    (l .loop .inv .1, b .pre .1, face-ends (sides (b .args .level) (d .side-in .ensures)) (c .before .before .before .loop-test .taken), b .pre .2)
 
 add-a : tie.Need-add-a Inv-loop μ-loop
 add-a c = omega (arith, c .before .before .before .before .before .before .loop-test .taken)

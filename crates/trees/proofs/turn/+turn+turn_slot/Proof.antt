@@ -1,4 +1,4 @@
-use mathlib.Core.Path.{_≡_, sym, _∙_}
+use mathlib.Core.Path.{_≡_, refl, sym, _∙_}
 use Prim.Native.Nat.{ℕ, _+_, _-_, _*_, _<_, _≤_}
 use native.Mathlib.Omega.{arith}
 use borrow.Author.Needs.{needs}
@@ -12,7 +12,7 @@ use Rattle.nodes.proofs.Paths.{slot-of, stands-below}
 use Rattle.nodes.proofs.Each.{each-none, each-more}
 use Rattle.trees.specs.Turn.{turnAt, turnM}
 use Rattle.trees.proofs.Slots.{child-low}
-use Rattle.trees.proofs.Turns.{turn-flat, turn-down, leaf-stands, turn-leaf, turn-all}
+use Rattle.trees.proofs.Turns.{turn-flat, turn-down, turn-near, leaf-stands, turn-leaf, turn-all}
 use Rattle.trees.proofs.turn.turn.Reads as turn
 use Rattle.trees.proofs.turn.turn.Kinds as turn-kinds
 use Rattle.trees.proofs.turn.+turn+turn_slot.Lts-turn as turn-lts
@@ -50,7 +50,7 @@ abbrev turn-claims : ℕ → turn-lts.Claims
 turn-claims t = (leaf-reads.Asked, leaf-reads.Learnt, size-in-reads.Asked, size-in-reads.Learnt, turn-slot-below t, turn-slot.Post)
 
 abbrev turn-slot-claims : ℕ → turn-slot-lts.Claims
-turn-slot-claims t = (child-reads.Asked, child-reads.Learnt, flat-reads.Asked, flat-reads.Learnt, turn-below t, turn.Post, back-reads.Asked, back-reads.Learnt)
+turn-slot-claims t = (child-reads.Asked, child-reads.Learnt, flat-reads.Asked, flat-reads.Learnt, leaf-reads.Asked, leaf-reads.Learnt, back-reads.Asked, back-reads.Learnt, turn-below t, turn.Post)
 
 abbrev turn-Inv-loop : turn-lts.InvT-loop
 turn-Inv-loop slots₀ masks₀ book₀ n level x work m k₀ slots masks book k = (k ≤ m) × Sized n slots masks book × (st n slots masks book ≡ eachS (turnAt work (below (level - 1)) (turnM (branching (level - 1)) (below (level - 1)) work n) n x) k (st n slots₀ masks₀ book₀))
@@ -121,32 +121,53 @@ turn-slot-same-length-2 t c = c .before .before .before .before .flat .kept .1 .
 turn-slot-returns : (t : ℕ) → turn-slot-lts.Need-returns (turn-slot-claims t) (turn-slot-at t) turn-slot.Post
 turn-slot-returns t c = turn-flat _ _ _ _ _ _ _ (sym (c .before .before .before .before .before .before .before .enum-told .given .1) ∙ c .before .before .before .before .before .before .before .before .before .child .ensures _) (c .before .before .before .before .flat .ensures _)
 
-turn-slot-sub-turn : (t : ℕ) → turn-slot-lts.Need-sub-turn (turn-slot-claims t) (turn-slot-at t) turn-slot.Post
-turn-slot-sub-turn t c = omega (arith, c .before .before .before .before .before .before .before .before .before .before .before .before .pre .1 .3)
+turn-slot-add-leaf : (t : ℕ) → turn-slot-lts.Need-add-leaf (turn-slot-claims t) (turn-slot-at t) turn-slot.Post
+turn-slot-add-leaf t c = omega (arith, child-low _ _ (c .before .before .before .before .before .before .before .before .before .before .before .before .args .book .now) (c .before .before .before .before .before .before .before .before .before .before .before .before .pre .1 .2) (sym (c .before .before .before .before .c .given .1) ∙ c .before .before .before .before .before .before .child .ensures _), c .before .before .before .before .before .before .before .before .before .before .before .before .pre .1 .0 .most)
 
-turn-slot-add-turn : (t : ℕ) → turn-slot-lts.Need-add-turn (turn-slot-claims t) (turn-slot-at t) turn-slot.Post
-turn-slot-add-turn t c = omega (arith, child-low _ _ (c .before .before .before .before .before .before .before .before .before .before .before .before .args .book .now) (c .before .before .before .before .before .before .before .before .before .before .before .before .pre .1 .2) (sym (c .before .before .before .before .c .given .1) ∙ c .before .before .before .before .before .before .child .ensures _), c .before .before .before .before .before .before .before .before .before .before .before .before .pre .1 .0 .most)
-
-turn-slot-turn-requires : (t : ℕ) → turn-slot-lts.Need-turn-requires (turn-slot-claims t) (turn-slot-at t) turn-slot.Post
-turn-slot-turn-requires t c κs = (omega (arith, c .before .before .before .before .before .before .before .before .before .before .before .before .pre .0, c .before .before .before .before .before .before .before .before .before .before .before .before .pre .1 .3), (c .before .before .before .before .before .before .before .before .before .before .before .before .pre .1 .0, stands-below (c .before .before .before .before .before .before .before .before .before .before .before .before .pre .1 .1) (λ e. omega (arith, c .before .before .before .before .before .before .before .before .before .before .before .before .pre .1 .3)) _ (child-low _ _ (c .before .before .before .before .before .before .before .before .before .before .before .before .args .book .now) (c .before .before .before .before .before .before .before .before .before .before .before .before .pre .1 .2) (sym (c .before .before .before .before .c .given .1) ∙ c .before .before .before .before .before .before .child .ensures _))))
-
-turn-slot-sub-back : (t : ℕ) → turn-slot-lts.Need-sub-back (turn-slot-claims t) (turn-slot-at t) turn-slot.Post
-turn-slot-sub-back t c = omega (arith, c .before .before .before .before .before .before .before .before .before .before .before .before .before .before .before .before .before .before .before .before .before .before .pre .1 .3)
+turn-slot-leaf-requires : (t : ℕ) → turn-slot-lts.Need-leaf-requires (turn-slot-claims t) (turn-slot-at t) turn-slot.Post
+turn-slot-leaf-requires t c κs = (cells-of (c .before .before .before .before .before .before .before .before .before .before .before .before .pre .1 .0), leaf-stands (stands-below (c .before .before .before .before .before .before .before .before .before .before .before .before .pre .1 .1) (λ e. omega (arith, c .before .before .before .before .before .before .before .before .before .before .before .before .pre .1 .3)) _ (child-low _ _ (c .before .before .before .before .before .before .before .before .before .before .before .before .args .book .now) (c .before .before .before .before .before .before .before .before .before .before .before .before .pre .1 .2) (sym (c .before .before .before .before .c .given .1) ∙ c .before .before .before .before .before .before .child .ensures _))) (omega (arith, c .before .before .if1 .taken)))
 
 turn-slot-back-requires : (t : ℕ) → turn-slot-lts.Need-back-requires (turn-slot-claims t) (turn-slot-at t) turn-slot.Post
-turn-slot-back-requires t c κs = (sized-kept (c .before .before .before .before .before .before .before .before .before .before .before .before .before .before .before .before .before .before .before .before .before .before .pre .1 .0) (c .before .before .before .before .before .before .before .before .before .turn .kept .0) (c .before .before .before .before .before .before .before .before .before .turn .kept .1 .0) (c .before .before .before .before .before .before .before .before .before .turn .kept .1 .1 .0), c .before .before .before .before .before .before .before .before .before .before .before .before .before .before .before .before .before .before .before .before .before .before .pre .1 .2)
+turn-slot-back-requires t c κs = (sized-kept (c .before .before .before .before .before .before .before .before .before .before .before .before .before .before .before .before .before .before .before .before .pre .1 .0) (c .before .before .before .before .before .before .before .leaf .kept .0) (c .before .before .before .before .before .before .before .leaf .kept .1 .0) refl, c .before .before .before .before .before .before .before .before .before .before .before .before .before .before .before .before .before .before .before .before .pre .1 .2)
 
 turn-slot-same-length-3 : (t : ℕ) → turn-slot-lts.Need-same-length-3 (turn-slot-claims t) (turn-slot-at t) turn-slot.Post
-turn-slot-same-length-3 t c = c .before .before .before .before .before .before .back .kept .0 ∙ c .before .before .before .before .before .before .before .before .before .before .before .before .before .before .before .before .turn .kept .0
+turn-slot-same-length-3 t c = c .before .before .before .before .before .before .back .kept .0 ∙ c .before .before .before .before .before .before .before .before .before .before .before .before .before .before .leaf .kept .0
 
 turn-slot-same-length-4 : (t : ℕ) → turn-slot-lts.Need-same-length-4 (turn-slot-claims t) (turn-slot-at t) turn-slot.Post
-turn-slot-same-length-4 t c = c .before .before .before .before .before .before .back .kept .1 .0 ∙ c .before .before .before .before .before .before .before .before .before .before .before .before .before .before .before .before .turn .kept .1 .0
+turn-slot-same-length-4 t c = c .before .before .before .before .before .before .back .kept .1 .0 ∙ c .before .before .before .before .before .before .before .before .before .before .before .before .before .before .leaf .kept .1 .0
 
 turn-slot-same-length-5 : (t : ℕ) → turn-slot-lts.Need-same-length-5 (turn-slot-claims t) (turn-slot-at t) turn-slot.Post
-turn-slot-same-length-5 t c = c .before .before .before .before .before .before .back .kept .1 .1 .0 ∙ c .before .before .before .before .before .before .before .before .before .before .before .before .before .before .before .before .turn .kept .1 .1 .0
+turn-slot-same-length-5 t c = c .before .before .before .before .before .before .back .kept .1 .1 .0
 
 turn-slot-returns-2 : (t : ℕ) → turn-slot-lts.Need-returns-2 (turn-slot-claims t) (turn-slot-at t) turn-slot.Post
-turn-slot-returns-2 t c = turn-down _ _ _ _ _ _ _ (sym (c .before .before .before .before .before .before .before .before .before .before .before .before .before .before .before .before .before .before .before .before .before .c .given .1) ∙ c .before .before .before .before .before .before .before .before .before .before .before .before .before .before .before .before .before .before .before .before .before .before .before .child .ensures _) (c .before .before .before .before .before .before .before .before .before .before .before .before .before .before .before .before .turn .ensures) (c .before .before .before .before .before .before .back .ensures)
+turn-slot-returns-2 t c = turn-near _ _ _ _ _ (c .before .before .before .before .before .before .before .before .before .before .before .before .before .before .before .before .before .before .before .before .before .before .before .before .before .before .before .args .level) (c .before .before .before .before .before .before .before .before .before .before .before .before .before .before .before .before .before .if1 .taken) (sym (c .before .before .before .before .before .before .before .before .before .before .before .before .before .before .before .before .before .before .before .c .given .1) ∙ c .before .before .before .before .before .before .before .before .before .before .before .before .before .before .before .before .before .before .before .before .before .child .ensures _) (c .before .before .before .before .before .before .before .before .before .before .before .before .before .before .leaf .ensures _) (c .before .before .before .before .before .before .back .ensures)
+
+turn-slot-sub-turn : (t : ℕ) → turn-slot-lts.Need-sub-turn (turn-slot-claims t) (turn-slot-at t) turn-slot.Post
+turn-slot-sub-turn t c = omega (arith, c .before .before .before .before .before .before .before .before .before .before .before .before .before .pre .1 .3)
+
+turn-slot-add-turn : (t : ℕ) → turn-slot-lts.Need-add-turn (turn-slot-claims t) (turn-slot-at t) turn-slot.Post
+turn-slot-add-turn t c = omega (arith, child-low _ _ (c .before .before .before .before .before .before .before .before .before .before .before .before .before .args .book .now) (c .before .before .before .before .before .before .before .before .before .before .before .before .before .pre .1 .2) (sym (c .before .before .before .before .before .c .given .1) ∙ c .before .before .before .before .before .before .before .child .ensures _), c .before .before .before .before .before .before .before .before .before .before .before .before .before .pre .1 .0 .most)
+
+turn-slot-turn-requires : (t : ℕ) → turn-slot-lts.Need-turn-requires (turn-slot-claims t) (turn-slot-at t) turn-slot.Post
+turn-slot-turn-requires t c κs = (omega (arith, c .before .before .before .before .before .before .before .before .before .before .before .before .before .pre .0, c .before .before .before .before .before .before .before .before .before .before .before .before .before .pre .1 .3), (c .before .before .before .before .before .before .before .before .before .before .before .before .before .pre .1 .0, stands-below (c .before .before .before .before .before .before .before .before .before .before .before .before .before .pre .1 .1) (λ e. omega (arith, c .before .before .before .before .before .before .before .before .before .before .before .before .before .pre .1 .3)) _ (child-low _ _ (c .before .before .before .before .before .before .before .before .before .before .before .before .before .args .book .now) (c .before .before .before .before .before .before .before .before .before .before .before .before .before .pre .1 .2) (sym (c .before .before .before .before .before .c .given .1) ∙ c .before .before .before .before .before .before .before .child .ensures _))))
+
+turn-slot-sub-back : (t : ℕ) → turn-slot-lts.Need-sub-back (turn-slot-claims t) (turn-slot-at t) turn-slot.Post
+turn-slot-sub-back t c = omega (arith, c .before .before .before .before .before .before .before .before .before .before .before .before .before .before .before .before .before .before .before .before .before .before .before .pre .1 .3)
+
+turn-slot-back-requires-2 : (t : ℕ) → turn-slot-lts.Need-back-requires-2 (turn-slot-claims t) (turn-slot-at t) turn-slot.Post
+turn-slot-back-requires-2 t c κs = (sized-kept (c .before .before .before .before .before .before .before .before .before .before .before .before .before .before .before .before .before .before .before .before .before .before .before .pre .1 .0) (c .before .before .before .before .before .before .before .before .before .turn .kept .0) (c .before .before .before .before .before .before .before .before .before .turn .kept .1 .0) (c .before .before .before .before .before .before .before .before .before .turn .kept .1 .1 .0), c .before .before .before .before .before .before .before .before .before .before .before .before .before .before .before .before .before .before .before .before .before .before .before .pre .1 .2)
+
+turn-slot-same-length-6 : (t : ℕ) → turn-slot-lts.Need-same-length-6 (turn-slot-claims t) (turn-slot-at t) turn-slot.Post
+turn-slot-same-length-6 t c = c .before .before .before .before .before .before .back2 .kept .0 ∙ c .before .before .before .before .before .before .before .before .before .before .before .before .before .before .before .before .turn .kept .0
+
+turn-slot-same-length-7 : (t : ℕ) → turn-slot-lts.Need-same-length-7 (turn-slot-claims t) (turn-slot-at t) turn-slot.Post
+turn-slot-same-length-7 t c = c .before .before .before .before .before .before .back2 .kept .1 .0 ∙ c .before .before .before .before .before .before .before .before .before .before .before .before .before .before .before .before .turn .kept .1 .0
+
+turn-slot-same-length-8 : (t : ℕ) → turn-slot-lts.Need-same-length-8 (turn-slot-claims t) (turn-slot-at t) turn-slot.Post
+turn-slot-same-length-8 t c = c .before .before .before .before .before .before .back2 .kept .1 .1 .0 ∙ c .before .before .before .before .before .before .before .before .before .before .before .before .before .before .before .before .turn .kept .1 .1 .0
+
+turn-slot-returns-3 : (t : ℕ) → turn-slot-lts.Need-returns-3 (turn-slot-claims t) (turn-slot-at t) turn-slot.Post
+turn-slot-returns-3 t c = turn-down _ _ _ _ _ _ _ (sym (c .before .before .before .before .before .before .before .before .before .before .before .before .before .before .before .before .before .before .before .before .before .before .c .given .1) ∙ c .before .before .before .before .before .before .before .before .before .before .before .before .before .before .before .before .before .before .before .before .before .before .before .before .child .ensures _) (c .before .before .before .before .before .before .before .before .before .before .before .before .before .before .before .before .turn .ensures) (c .before .before .before .before .before .before .back2 .ensures)
 
 pub +turn+turn-slot-spec : {M : Type 1} → statement M
 +turn+turn-slot-spec = close μ-turn μ-turn-slot (λ t. turn-lts.spec (turn-claims t)
@@ -178,12 +199,19 @@ pub +turn+turn-slot-spec : {M : Type 1} → statement M
     (turn-slot-same-length t)
     (turn-slot-same-length-2 t)
     (turn-slot-returns t)
-    (turn-slot-sub-turn t)
-    (turn-slot-add-turn t)
-    (turn-slot-turn-requires t)
-    (turn-slot-sub-back t)
+    (turn-slot-add-leaf t)
+    (turn-slot-leaf-requires t)
     (turn-slot-back-requires t)
     (turn-slot-same-length-3 t)
     (turn-slot-same-length-4 t)
     (turn-slot-same-length-5 t)
     (turn-slot-returns-2 t)
+    (turn-slot-sub-turn t)
+    (turn-slot-add-turn t)
+    (turn-slot-turn-requires t)
+    (turn-slot-sub-back t)
+    (turn-slot-back-requires-2 t)
+    (turn-slot-same-length-6 t)
+    (turn-slot-same-length-7 t)
+    (turn-slot-same-length-8 t)
+    (turn-slot-returns-3 t)

@@ -1,57 +1,72 @@
-use mathlib.Core.Path.{_≡_, sym, _∙_}
-use mathlib.Core.List.{List}
-use Prim.Native.Nat.{ℕ, _-_, _≤_}
+use mathlib.Core.Path.{refl}
 use native.Mathlib.Omega.{arith}
-use Rattle.nodes.specs.Layout.{st}
-use Rattle.nodes.specs.Range.{Cells}
-use Rattle.nodes.specs.Each.{eachS}
-use Rattle.nodes.proofs.Each.{each-none, each-more}
-use Rattle.trees.specs.Turn.{flatS}
-use Rattle.trees.proofs.Turns.{cells-same, leaf-slot, leaf-all}
+use borrow.Author.Needs.{needs}
+use Rattle.nodes.proofs.Paths.{leaf-cell}
+use Rattle.trees.proofs.Turns.{leaf-flipped, leaf-cut, leaf-pruned, leaf-work, leaf-room}
 use Rattle.trees.proofs.turn.leaf.Statement.{statement}
 use Rattle.trees.proofs.turn.leaf.Tie as tie
 
-abbrev Inv-loop : tie.InvT-loop
-Inv-loop slots₀ masks₀ n x work k₀ slots masks k = (k ≤ 64) × Cells n slots masks × ((book : List ℕ) → st n slots masks book ≡ eachS (flatS work x) k (st n slots₀ masks₀ book))
+enum-told : tie.Need-enum-told
+enum-told c = search needs
 
-abbrev μ-loop : tie.MeasureT-loop
-μ-loop slots₀ masks₀ n x work k₀ slots masks k = 64 - k
+returns : tie.Need-returns
+returns c = λ book. leaf-work _ _ _ _ (c .enum-told .given .1) (leaf-pruned _ _ _)
 
-loop-holds : tie.Need-loop-holds Inv-loop μ-loop
-loop-holds c = (omega arith, c .before .before .pre .0, λ book. each-none _ _)
+enum-known-work : tie.Need-enum-known-work
+enum-known-work c = search needs
 
-flat-requires : tie.Need-flat-requires Inv-loop μ-loop
-flat-requires c κs = (c .before .before .before .loop .inv .1, leaf-slot (c .before .before .before .before .before .before .pre .1) (c .before .before .loop-test .taken))
+sub-cut-bits : tie.Need-sub-cut-bits
+sub-cut-bits c = omega (arith, leaf-cell (c .before .before .before .before .before .before .pre .1) refl)
 
-add-k : tie.Need-add-k Inv-loop μ-loop
-add-k c = omega (arith, c .before .before .before .before .before .before .before .loop-test .taken)
+cut-bits-requires : tie.Need-cut-bits-requires
+cut-bits-requires c κs = leaf-room (c .before .before .before .before .before .before .pre .0) (c .before .before .before .before .before .before .pre .1)
 
-loop-less : tie.Need-loop-less Inv-loop μ-loop
-loop-less c = omega (arith, c .before .before .before .before .before .before .before .loop-test .taken)
+sub-drop-values : tie.Need-sub-drop-values
+sub-drop-values c = omega (arith, leaf-cell (c .before .before .before .before .before .before .before .before .pre .1) refl)
 
-loop-again : tie.Need-loop-again Inv-loop μ-loop
-loop-again c = (omega (arith, c .before .before .before .before .before .before .before .loop-test .taken), cells-same (c .before .before .before .before .before .before .before .before .loop .inv .1) (c .before .before .before .before .flat .kept .0) (c .before .before .before .before .flat .kept .1 .0), λ book. each-more _ _ _ (c .before .before .before .before .before .before .before .before .loop .inv .2 book) (c .before .before .before .before .flat .ensures book))
+drop-values-requires : tie.Need-drop-values-requires
+drop-values-requires c κs = (record { most = c .before .before .before .before .before .before .before .before .pre .0 .most; masks-fit = c .before .before .before .before .before .before .before .before .pre .0 .masks-fit }, omega (arith, c .before .before .before .before .before .before .before .before .pre .1 .node, leaf-cell (c .before .before .before .before .before .before .before .before .pre .1) refl))
 
-same-length : tie.Need-same-length Inv-loop μ-loop
-same-length c = c .before .loop .inv .1 .slots-fit ∙ sym (c .before .before .before .before .pre .0 .slots-fit)
+same-length : tie.Need-same-length
+same-length c = search needs
 
-same-length-2 : tie.Need-same-length-2 Inv-loop μ-loop
-same-length-2 c = c .before .loop .inv .1 .masks-fit ∙ sym (c .before .before .before .before .pre .0 .masks-fit)
+same-length-2 : tie.Need-same-length-2
+same-length-2 c = search needs
 
-returns : tie.Need-returns Inv-loop μ-loop
-returns c = λ book. leaf-all _ _ _ _ (c .before .loop .k) (omega (arith, c .loop-test .left, c .before .loop .inv .0)) (c .before .loop .inv .2 book)
+returns-2 : tie.Need-returns-2
+returns-2 c = λ book. leaf-work _ _ _ _ (c .before .before .before .before .before .before .before .work .given .1) (leaf-cut _ _ _ book _ (leaf-cell (c .before .before .before .before .before .before .before .before .before .before .before .pre .1) refl) (c .before .before .before .before .before .before .before .before .before .before .before .pre .1 .node) _ _ _ (c .before .before .before .before .cut-bits .ensures) (c .before .before .drop-values .ensures))
+
+enum-told-2 : tie.Need-enum-told-2
+enum-told-2 c = search needs
+
+sub-flip-words : tie.Need-sub-flip-words
+sub-flip-words c = omega (arith, leaf-cell (c .before .before .before .before .before .pre .1) refl)
+
+flip-words-requires : tie.Need-flip-words-requires
+flip-words-requires c κs = leaf-room (c .before .before .before .before .before .pre .0) (c .before .before .before .before .before .pre .1)
+
+same-length-3 : tie.Need-same-length-3
+same-length-3 c = search needs
+
+returns-3 : tie.Need-returns-3
+returns-3 c = λ book. leaf-work _ _ _ _ (c .before .before .before .before .enum-told2 .given .1) (leaf-flipped _ _ _ book _ (leaf-cell (c .before .before .before .before .before .before .before .before .pre .1) refl) (c .before .before .before .before .before .before .before .before .pre .1 .node) _ (c .before .before .flip-words .ensures))
 
 pub leaf-spec : {M : Type 1} → statement M
 leaf-spec =
     tie.close
     (tie.spec
-    Inv-loop
-    μ-loop
-    loop-holds
-    flat-requires
-    add-k
-    loop-less
-    loop-again
+    enum-told
+    returns
+    enum-known-work
+    sub-cut-bits
+    cut-bits-requires
+    sub-drop-values
+    drop-values-requires
     same-length
     same-length-2
-    returns)
+    returns-2
+    enum-told-2
+    sub-flip-words
+    flip-words-requires
+    same-length-3
+    returns-3)
