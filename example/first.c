@@ -1,7 +1,7 @@
-/* The first steps: lend memory, prepare it, insert a voxel, look it up and remove it. Build it at the root of the tree:
+/* The first steps: lend memory, prepare it, insert a voxel, look it up and remove it; give a seat its signs; and start again after damage. Build it at the root of the tree:
 
-       tools/archive calls
-       gcc -std=c99 -Wall -Wextra -Iinclude example/first.c target/archive/libcalls.a -o target/first */
+       tools/library
+       gcc -std=c99 -Wall -Wextra -Itarget/library example/first.c target/library/libyoldrick.a -o target/first */
 #include <stdio.h>
 
 #include "yoldrick.h"
@@ -22,7 +22,7 @@ static void show(const char *what, int32_t x, int32_t y, int32_t z) {
     else if (found.code == YOLDRICK_NOTHING)
         printf("%s: (%d, %d, %d) has nothing\n", what, (int)x, (int)y, (int)z);
     else
-        printf("%s: refused with %u\n", what, (unsigned)found.code);
+        printf("%s: %s\n", what, yoldrick_text(found.code));
 }
 
 int main(void) {
@@ -41,6 +41,13 @@ int main(void) {
     show("removed", 5, -3, 70);
     printf("free cells: %u\n", (unsigned)yoldrick_free_cells(POOL).number);
     printf("sign of a seat that is not filled: refusal %u\n", (unsigned)yoldrick_sign(POOL, 0, 5, -3, 70).code);
+    printf("insert: %u\n", (unsigned)yoldrick_insert(POOL, 0, 5, -3, 70, yoldrick_bits(-0.25f)));
+    printf("fill with signs: %u\n", (unsigned)yoldrick_fill_signs(POOL, 0));
+    printf("a hidden voxel is negative: %u\n", (unsigned)yoldrick_sign(POOL, 0, 90, 90, 90).number);
+    book[8] = CELLS + 1; /* something else writes to the pool */
+    show("damaged, its path whole", 5, -3, 70);
+    if (yoldrick_flip(POOL, 0) == YOLDRICK_REFUSED_DAMAGED)
+        printf("%s; prepare: %u\n", yoldrick_text(YOLDRICK_REFUSED_DAMAGED), (unsigned)yoldrick_prepare(POOL));
     printf("no memory at all: refusal %u\n", (unsigned)yoldrick_prepare(NULL, 0, NULL, 0, NULL, 0));
     return 0;
 }

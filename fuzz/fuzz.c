@@ -14,6 +14,7 @@
 #include <stdbool.h>
 #include <stdio.h>
 #include <stdlib.h>
+#include <string.h>
 #include <sys/mman.h>
 #include <time.h>
 #include <unistd.h>
@@ -1079,6 +1080,18 @@ static void prepare(void) {
     }
 }
 
+/* The counts of each pool, and of numbers of which there is none. */
+static void try_sizes(void) {
+    memory = "none lent";
+    for (uint32_t i = 0; i <= 100000; i++) {
+        uint32_t n = now.bits = i <= MOST ? i : any32();
+        bool is = n >= 1 && n <= 65535;
+        yoldrick_lengths told = yoldrick_sizes(n);
+        if (told.code != !is || told.slots != is * (4096 + 64 * n) || told.masks != is * (128 + 2 * n) || told.book != is * (9 + 2 * n))
+            fail("other counts were told");
+    }
+}
+
 /* The largest pool, and one cell more, which is refused. */
 static void run_largest(bool first) {
     memory = "the largest pool";
@@ -1198,6 +1211,7 @@ int main(int count, char **words) {
     make_room(&parts[SLOTS], 4096 + 64 * (size_t)MOST, sizeof(uint32_t));
     make_room(&parts[MASKS], 128 + 2 * (size_t)MOST, sizeof(uint64_t));
     make_room(&parts[BOOK], 9 + 2 * (size_t)MOST, sizeof(uint32_t));
+    try_sizes();
     for (episode = 0; made < calls || time(NULL) < end; episode++) {
         alarm(30);
         run_episode();

@@ -1,4 +1,15 @@
-/* Voxel grids on lent memory: eight grids, the seats 0 to 7, share one pool of n cells, with n from 1 to 65535.
+/* Voxel grids on lent memory: eight grids, the seats 0 to 7, share one pool of n cells, with n from 1 to 65535. C99 and C++; freestanding.
+
+   THE CALLER PROMISES what no call can test. Where it is not kept, nothing is promised in return:
+
+       - each count is true: so many elements are there (NULL with the count 0 is allowed)
+       - the three arrays of a pool are apart: no two overlap
+       - each is aligned as its type asks, the masks to 8 bytes on a 32-bit machine too
+       - while a call that changes a pool runs, nobody else reads or writes its arrays; while another call runs, nobody writes them. There is no lock
+       - subnormal numbers count: no flush-to-zero, no denormals-are-zero while a call runs
+       - YOLDRICK_STACK bytes of stack are left
+
+   All else is tested: no other input, and no word in the arrays, makes a call trap, leave the arrays or run on without an end.
 
    MEMORY. A pool is three arrays that the caller owns and lends to each call, whole:
 
@@ -6,17 +17,16 @@
        masks   uint64_t   YOLDRICK_MASKS(n)    128 +  2 n
        book    uint32_t   YOLDRICK_BOOK(n)       9 +  2 n
 
-   An array is passed as a pointer and its count of elements (not of bytes), aligned as its type asks. What the arrays hold before yoldrick_prepare does not matter.
-   The library keeps no memory of its own and no pointer after a call, and has no lock: while a call that writes runs, no other call may run on the same arrays.
-   The three arrays must not overlap. No call can test this, and the promises do not cover it. A count is trusted: that many elements must be there. NULL is allowed
-   with the count 0, and is then refused with 1, as every set of counts that fits no n.
+   An array is passed as a pointer and its count of elements (not of bytes). The counts above are known to the compiler; yoldrick_sizes tells the same of an n that it does
+   not know. What the arrays hold before yoldrick_prepare does not matter. The library keeps no memory of its own and no pointer after a call: a copy of the three arrays is
+   a copy of the pool, and may be lent in its place.
 
-   NUMBERS. Values are IEEE 754 binary32, and are compared with the machine's own instructions for it: modes that take a subnormal for 0 (flush-to-zero,
-   denormals-are-zero) must be off while a call runs. With one on, an insert under a tile, a cut and a combination may take a subnormal for equal to 0.
+   NUMBERS. Values are IEEE 754 binary32, and are compared with the machine's own instructions for it. With a mode that takes a subnormal for 0, an insert under a tile, a cut
+   and a combination may take one for equal to 0.
 
    POINTS. A grid is 128 voxels a side. Coordinates are masked to their low 7 bits: -1 is 127, and 128 is 0. So every point is in the grid.
 
-   REFUSALS. Each call tests in the order of these numbers; one that is refused has changed no lent word. No input traps or runs on without an end.
+   REFUSALS. Each call tests in the order of these numbers; one that is refused has changed no lent word. Each has a name below, and yoldrick_text has a text for it.
 
        1   the counts are not those of one n from 1 to 65535
        2   a seat number is above 7
@@ -28,6 +38,15 @@
        8   a copy onto a seat that is not empty
        9   fewer free cells than needed
 
+   AFTER A 5 something else has written to the arrays, or they were never prepared. The way back is yoldrick_prepare, which accepts every memory and loses all eight grids, or a
+   copy of the three arrays from before the damage, put back. Until then:
+
+       - a lookup or a sign is answered where its own path is whole: with what the memory holds, which need not be what was stored
+       - an insert or remove may be accepted, and then promises only to end, to stay inside the arrays and to store no value that is not finite: make none
+       - every other call is refused with 5, whichever seat the damage is in
+
+   A 5 is given for what breaks a pool. A finite value that was changed into another is not seen: firmware that must find that, too, keeps a sum of the arrays.
+
    SIGNS. A slot that is neither active nor a branch is hidden: no lookup shows its value, but it has one, and so a sign. An accepted yoldrick_fill_signs gives every hidden
    slot its sign and fills the seat with signs; yoldrick_sign and the combinations are answered then. The seat is filled until the next accepted insert, remove, fill, clear,
    prune or cut on it, copy onto it, combination of another seat with it, or prepare, even one that finds nothing to change. A flip leaves it filled, and so does its
@@ -35,14 +54,20 @@
 
    COST. 'A walk' is at most three slots, whatever n is. 'The whole pool' is each cell and slot once: the test that it is sound.
 
-   What each call answers, and every lent word after it but for docs/EXCEPTIONS.md, is proved (crates/calls); the costs are not. */
+   STACK. No call uses more of it for a larger pool or a fuller seat: what calls itself goes down the three levels of a grid and no further. YOLDRICK_STACK bounds what
+   tools/library measures on x86_64, call by call.
+
+   MACHINES. tools/library makes the archive for the machine that it runs on, x86_64 or aarch64. Further names after it make it for i686 and for thumbv7em too, which is a
+   Cortex-M4 or M7 with its floating-point unit, called with hard floats; another name is refused. Counts are size_t. Inside they have 64 bits on every machine: on a 32-bit one
+   library/narrow.c widens them, and nothing else differs.
+
+   What each call answers, and every lent word after it but for docs/EXCEPTIONS.md, is proved (crates/calls); the costs and the stack are not. */
 
 #ifndef YOLDRICK_H
 #define YOLDRICK_H
 
 #include <stddef.h>
 #include <stdint.h>
-#include <string.h>
 
 #ifdef __cplusplus
 extern "C" {
@@ -52,9 +77,39 @@ extern "C" {
 #define YOLDRICK_MASKS(n) (128u + 2u * (n))
 #define YOLDRICK_BOOK(n) (9u + 2u * (n))
 
-/* Accepted, and the one code that is neither that nor a refusal. */
+/* Bytes of stack: no call was measured to use more. */
+#define YOLDRICK_STACK 2048u
+
+/* Accepted; the nine refusals; and the one code that is neither: a lookup that finds nothing. */
 #define YOLDRICK_DONE 0u
+#define YOLDRICK_REFUSED_LENGTHS 1u
+#define YOLDRICK_REFUSED_SEAT 2u
+#define YOLDRICK_REFUSED_SAME_SEAT 3u
+#define YOLDRICK_REFUSED_VALUE 4u
+#define YOLDRICK_REFUSED_DAMAGED 5u
+#define YOLDRICK_REFUSED_UNFILLED 6u
+#define YOLDRICK_REFUSED_EMPTY_BRANCH 7u
+#define YOLDRICK_REFUSED_OCCUPIED 8u
+#define YOLDRICK_REFUSED_NO_CELLS 9u
 #define YOLDRICK_NOTHING 10u
+
+/* A short text for a code, for logs. */
+static inline const char *yoldrick_text(uint32_t code) {
+    switch (code) {
+    case YOLDRICK_DONE: return "accepted";
+    case YOLDRICK_REFUSED_LENGTHS: return "the lengths of the three arrays do not belong together";
+    case YOLDRICK_REFUSED_SEAT: return "a seat number is above 7";
+    case YOLDRICK_REFUSED_SAME_SEAT: return "the two seats are the same";
+    case YOLDRICK_REFUSED_VALUE: return "a value or bound is not finite";
+    case YOLDRICK_REFUSED_DAMAGED: return "the memory is damaged or was never prepared";
+    case YOLDRICK_REFUSED_UNFILLED: return "a seat is not filled with signs";
+    case YOLDRICK_REFUSED_EMPTY_BRANCH: return "a seat has an empty branch";
+    case YOLDRICK_REFUSED_OCCUPIED: return "the seat to copy onto is not empty";
+    case YOLDRICK_REFUSED_NO_CELLS: return "too few free cells";
+    case YOLDRICK_NOTHING: return "nothing there";
+    default: return "no such code";
+    }
+}
 
 /* code 0: value was found. 1 to 9: refused. 10: nothing there. The value is +0 where the code is not 0. */
 typedef struct {
@@ -67,6 +122,18 @@ typedef struct {
     uint32_t code;
     uint32_t number;
 } yoldrick_number;
+
+/* code 0: the counts of the three arrays. 1: there is no pool of so many cells, and the counts are 0. */
+typedef struct {
+    uint32_t code;
+    uint32_t slots;
+    uint32_t masks;
+    uint32_t book;
+} yoldrick_lengths;
+
+/* The counts for a pool of so many cells: what YOLDRICK_SLOTS, YOLDRICK_MASKS and YOLDRICK_BOOK say, for cells from 1 to 65535.
+   Refusals: 1. Cost: none to speak of. */
+yoldrick_lengths yoldrick_sizes(uint32_t cells);
 
 /* Frees every cell and empties every seat. Must come first; may come again at any time.
    Refusals: 1. Cost: eight tops and the book; what a cell holds is not touched. */
@@ -90,9 +157,21 @@ yoldrick_number yoldrick_sign(const uint32_t *slots, size_t slots_count, const u
 
 /* The bits of a float, for yoldrick_insert and yoldrick_fill. A value is passed as bits so that a NaN, too, reaches the test of it as the very bits that the caller had. */
 static inline uint32_t yoldrick_bits(float value) {
+#ifdef __cplusplus
     uint32_t bits;
-    memcpy(&bits, &value, sizeof bits);
+    const unsigned char *from = reinterpret_cast<const unsigned char *>(&value);
+    unsigned char *to = reinterpret_cast<unsigned char *>(&bits);
+    for (size_t i = 0; i < sizeof bits; i++)
+        to[i] = from[i];
     return bits;
+#else
+    union {
+        float value;
+        uint32_t bits;
+    } both;
+    both.value = value;
+    return both.bits;
+#endif
 }
 
 /* The voxel at (x, y, z) becomes active with the value of these bits: yoldrick_bits(value). Under an active tile of an equal value no slot changes (the two zeros are
@@ -154,7 +233,7 @@ uint32_t yoldrick_copy(uint32_t *slots, size_t slots_count, uint64_t *masks, siz
        b is no branch and inside     it becomes an active tile with minus the largest finite value
        b is no branch and outside    it stays as it is
        a is no branch and outside    it becomes the branch of b
-       both are branches             their slots are combined; a voxel is active if it was in a or in b, with the smaller of its two values (-0 is below +0)
+       both are branches             their slots are combined; a voxel is active if it was active in a or in b, with the smaller of its two values (-0 is below +0)
    The seat a stays filled with signs, and can be combined again. Needs no free cell; the cells of b that a does not take over are free then.
    Refusals: 1, 2, 3, 5, 6, 7. Cost: the whole pool, and a walk over the tops and cells of both seats. */
 uint32_t yoldrick_union(uint32_t *slots, size_t slots_count, uint64_t *masks, size_t masks_count, uint32_t *book, size_t book_count, uint32_t a, uint32_t b);
@@ -165,7 +244,7 @@ uint32_t yoldrick_union(uint32_t *slots, size_t slots_count, uint64_t *masks, si
        b is no branch and inside     it becomes hidden, outside, with the largest finite value
        b is no branch and outside    it stays as it is
        a is no branch and inside     it becomes the branch of b, flipped
-       both are branches             their slots are combined; a voxel is active if it was in a or in b, with the larger of a's value and minus b's
+       both are branches             their slots are combined; a voxel is active if it was active in a or in b, with the larger of a's value and minus b's
    Refusals: 1, 2, 3, 5, 6, 7. Cost: as of a union. */
 uint32_t yoldrick_subtract(uint32_t *slots, size_t slots_count, uint64_t *masks, size_t masks_count, uint32_t *book, size_t book_count, uint32_t a, uint32_t b);
 
@@ -174,7 +253,7 @@ uint32_t yoldrick_subtract(uint32_t *slots, size_t slots_count, uint64_t *masks,
        b is no branch and outside    it becomes hidden, outside, with the largest finite value
        b is no branch and inside     it stays as it is
        a is no branch and inside     it becomes the branch of b
-       both are branches             their slots are combined; a voxel is active if it was in a or in b, with the larger of its two values
+       both are branches             their slots are combined; a voxel is active if it was active in a or in b, with the larger of its two values
    Refusals: 1, 2, 3, 5, 6, 7. Cost: as of a union. */
 uint32_t yoldrick_intersect(uint32_t *slots, size_t slots_count, uint64_t *masks, size_t masks_count, uint32_t *book, size_t book_count, uint32_t a, uint32_t b);
 

@@ -1,5 +1,5 @@
-//! The calls on whole seats beside the Rust: prune, cut, flip, fill with signs and copy, between inserts and removes, on
-//! random grids and on shells. Where signs are compared no value is a zero.
+//! The calls on whole seats beside the Rust: prune, cut, flip, fill with signs and copy, with some combinations, between
+//! inserts and removes, on random grids and on shells. Where signs are compared no value is a zero.
 
 use oracle::beside::*;
 use oracle::grids::*;
