@@ -87,13 +87,15 @@ module _ (n : ℕ) (sl sl' mk mk' : List ℕ) (book : List ℕ) where
       (λ y j. val-val n (bitOf mid) (bitOf mk') a i r y j ∙ ap (λ (t : Bool). cond (eqb y x && eqb j k) a t) (kid-val n (bitOf mk) (bitOf mid) b i q y j))
       refl (λ _. refl) (λ _. refl) (λ _. refl)
 
-  pub put-step : {x k : ℕ} (w : ℕ) (a : Bool) → Cells n sl mk → In n x k → sl' ≡ set sl (wordOf x k) w
-      → ((j : ℕ) → bitOf mk' j ≡ cond (eqb j (valBit n x k)) a (bitOf mk j)) → st n sl' mk' book ≡ putS x k w a (st n sl mk book)
+  pub put-step : {x k i : ℕ} (w : ℕ) (a : Bool) → Cells n sl mk → In n x k → i ≡ wordOf x k → sl' ≡ set sl i w
+      → ((j : ℕ) → bitOf mk' j ≡ cond (eqb j (64 * (64 + n) + i)) a (bitOf mk j)) → st n sl' mk' book ≡ putS x k w a (st n sl mk book)
   unfolding st putS
-  put-step {x} {k} w a z i p r = st-ext _ _
-      (spread-one n 0 (λ j. getD sl j 0) (λ j. getD sl' j 0) x k w i (λ j l. ap (λ (s : List ℕ). getD s j 0) p ∙ getD-set sl (wordOf x k) w (omega (arith, word-lt i, z .slots-fit)) j))
-      (val-kid n (bitOf mk) (bitOf mk') a i r)
-      (val-val n (bitOf mk) (bitOf mk') a i r)
+  put-step {x} {k} w a z m e p r =
+      let q : (j : ℕ) → bitOf mk' j ≡ cond (eqb j (valBit n x k)) a (bitOf mk j) = λ j. r j ∙ ap (λ (h : ℕ). cond (eqb j (64 * (64 + n) + h)) a (bitOf mk j)) e in
+      st-ext _ _
+      (spread-one n 0 (λ j. getD sl j 0) (λ j. getD sl' j 0) x k w m (λ j l. ap (λ (s : List ℕ). getD s j 0) (p ∙ ap (λ (h : ℕ). set sl h w) e) ∙ getD-set sl (wordOf x k) w (omega (arith, word-lt m, z .slots-fit)) j))
+      (val-kid n (bitOf mk) (bitOf mk') a m q)
+      (val-val n (bitOf mk) (bitOf mk') a m q)
       refl (λ _. refl) (λ _. refl) (λ _. refl)
 
   pub cell-step : (c w : ℕ) (a : Bool) → c < n → ((j : ℕ) → getD sl' j 0 ≡ cond (eqb (j / 64) (64 + c)) w (getD sl j 0))

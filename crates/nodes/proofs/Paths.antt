@@ -1,27 +1,20 @@
--- The walk, by the level's number as the code goes it: what a slot is, and where the walk ends. Assumes nothing.
+-- The levels by their numbers, as the code goes them, and what a slot is. Assumes nothing.
 use mathlib.Core.Path.{_≡_, refl, sym, ap, _∙_, subst}
 use mathlib.Core.Bool.{Bool, true, false, cond}
-use mathlib.Core.List.{List, []}
+use mathlib.Core.List.{List}
 use mathlib.Core.Logic.{inl, inr}
 use Prim.Native.Nat.{ℕ, zero, suc, _+_, _-_, _<_, _≤_}
 use native.Mathlib.Omega.{arith}
 use lib.ListN.{length, getD}
-use lib.Dec.{ltb}
-use lib.Ieee.{Float}
-use borrow.Author.Tests.{lt-ltb, le-ltb}
 use Rattle.bitset.specs.Set.{bitOf}
 use Rattle.bitset.proofs.Digits.{lt-or-le}
-use Rattle.floats.specs.Value.{value, isFinite, equal}
 use Rattle.grid.specs.Geometry.{Point, slotOf}
 use Rattle.grid.specs.Node.{size}
 use Rattle.grid.proofs.Geometry.{slot-lt}
 use Rattle.nodes.specs.State.{St}
 use Rattle.nodes.specs.Layout.{st, wordOf, kidBit, valBit}
-use Rattle.nodes.specs.Walk.{branching, below, closedS, viewS, Reach, active, hidden, broken, reachAt, reachS, floated, needInsertR, needRemoveR}
-use Rattle.nodes.specs.Ends.{reachOf, needInsertE, needRemoveE}
+use Rattle.nodes.specs.Walk.{branching, below, closedS, viewS}
 use Rattle.nodes.specs.Range.{In, Stands}
-use Rattle.nodes.specs.declared.walk.Ends.the-variants.{Active, Broken}
-use Rattle.nodes.specs.declared.walk.Ends.the-variants as Ends
 use Rattle.nodes.specs.declared.walk.Slot.{Slot}
 use Rattle.nodes.specs.declared.walk.Slot.the-variants.{Branch, Tile, Hidden}
 use Rattle.nodes.proofs.Places.{wide-top, wide-cell}
@@ -85,90 +78,6 @@ pub view-up : (s : St) (l x k : ℕ) → (l ≡ 0 → ⊥) → cond (s .kid x k)
 unfolding viewS
 view-up s zero x k h = absurd (h refl)
 view-up s (suc l) x k h = refl
-
--- a leaf has no branch
-no-branch : (b : Bool) (c w : ℕ) → Branch c ≡ cond b (Tile w) (Hidden w) → ⊥
-no-branch true c w e = let z : _≡_ {A = ℕ} 0 1 = cc in omega arith
-no-branch false c w e = let z : _≡_ {A = ℕ} 0 1 = cc in omega arith
-
-pub branch-up : (s : St) (l x k : ℕ) {c : ℕ} → Branch c ≡ viewS (below l) s x k → l ≡ 0 → ⊥
-branch-up s l x k {c} e z = no-branch (s .val x k) c (s .slot x k) (e ∙ sym (view-leaf s l x k z))
-
--- ---- where a walk ends
--- by what the slot is, where v is its bit in the value mask and `go` goes on in a cell
-seen : (ℕ → Reach) → ℕ → ℕ → Bool → Slot → Reach
-seen go n l v (Branch c) = cond v broken (cond (ltb c n) (go c) broken)
-seen go n l v (Tile w) = reachOf l true w
-seen go n l v (Hidden w) = reachOf l false w
-
-seen-closed : (go : ℕ → Reach) (n l : ℕ) (v : Bool) (w : ℕ) → reachOf l v w ≡ seen go n l v (cond v (Tile w) (Hidden w))
-unfolding seen
-seen-closed go n l true w = refl
-seen-closed go n l false w = refl
-
-seen-any : (go : ℕ → Reach) (n l : ℕ) (q v : Bool) (w : ℕ) → cond q (cond v broken (cond (ltb w n) (go w) broken)) (reachOf l v w) ≡ seen go n l v (cond q (Branch w) (cond v (Tile w) (Hidden w)))
-unfolding seen
-seen-any go n l true v w = refl
-seen-any go n l false v w = seen-closed go n l v w
-
-reach-seen : (n : ℕ) (s : St) (l x : ℕ) (p : Point) → reachS (branching l) (below l) n s x p ≡ seen (λ c. reachS (branching (l - 1)) (below (l - 1)) n s (8 + c) p) n l (s .val x (slotOf (branching l) (below l) p)) (viewS (below l) s x (slotOf (branching l) (below l) p))
-unfolding reachS viewS
-reach-seen n s zero x p = seen-closed (λ c. reachS (branching (0 - 1)) (below (0 - 1)) n s (8 + c) p) n 0 (s .val x (slotOf 2 [] p)) (s .slot x (slotOf 2 [] p))
-reach-seen n s (suc l) x p =
-    let k = slotOf (branching (suc l)) (below (suc l)) p in
-    let go : ℕ → Reach = λ c. reachS (branching l) (below l) n s (8 + c) p in
-    ap (λ (m : ℕ). cond (s .kid x k) (cond (s .val x k) broken (cond (ltb (s .slot x k) n) (go (s .slot x k)) broken)) (reachAt (suc m) s x k)) (below-length l)
-    ∙ seen-any go n (suc l) (s .kid x k) (s .val x k) (s .slot x k)
-    ∙ ap (λ (m : ℕ). seen (λ c. reachS (branching m) (below m) n s (8 + c) p) n (suc l) (s .val x k) (viewS (below (suc l)) s x k)) (sym (one-less l))
-
-module _ (n : ℕ) (s : St) (l x : ℕ) (p : Point) {k : ℕ} (e : k ≡ slotOf (branching l) (below l) p) where
-  reach-by : (t : Slot) → t ≡ viewS (below l) s x k → reachS (branching l) (below l) n s x p ≡ seen (λ c. reachS (branching (l - 1)) (below (l - 1)) n s (8 + c) p) n l (s .val x k) t
-  reach-by t h =
-      let go : ℕ → Reach = λ c. reachS (branching (l - 1)) (below (l - 1)) n s (8 + c) p in
-      reach-seen n s l x p ∙ ap (λ (j : ℕ). seen go n l (s .val x j) (viewS (below l) s x j)) (sym e) ∙ ap (seen go n l (s .val x k)) (sym h)
-
-  pub reach-tile : {w : ℕ} → Tile w ≡ viewS (below l) s x k → floated (reachOf l true w) ≡ floated (reachS (branching l) (below l) n s x p)
-  unfolding seen
-  reach-tile {w} h = ap floated (sym (reach-by (Tile w) h))
-
-  pub reach-hidden : {w : ℕ} → Hidden w ≡ viewS (below l) s x k → floated (reachOf l false w) ≡ floated (reachS (branching l) (below l) n s x p)
-  unfolding seen
-  reach-hidden {w} h = ap floated (sym (reach-by (Hidden w) h))
-
-  pub reach-both : {c : ℕ} → Branch c ≡ viewS (below l) s x k → s .val x k ≡ true → floated broken ≡ floated (reachS (branching l) (below l) n s x p)
-  unfolding seen
-  reach-both {c} h v = let q : reachS (branching l) (below l) n s x p ≡ broken = reach-by (Branch c) h ∙ rw v refl in ap floated (sym q)
-
-  pub reach-out : {c : ℕ} → Branch c ≡ viewS (below l) s x k → s .val x k ≡ false → n ≤ c → floated broken ≡ floated (reachS (branching l) (below l) n s x p)
-  unfolding seen
-  reach-out {c} h v o = let q : reachS (branching l) (below l) n s x p ≡ broken = reach-by (Branch c) h ∙ rw (v, le-ltb c n o) refl in ap floated (sym q)
-
-  pub reach-down : {c : ℕ} → Branch c ≡ viewS (below l) s x k → s .val x k ≡ false → c < n
-      → floated (reachS (branching (l - 1)) (below (l - 1)) n s (8 + c) p) ≡ floated (reachS (branching l) (below l) n s x p)
-  unfolding seen
-  reach-down {c} h v i =
-      let q : reachS (branching l) (below l) n s x p ≡ reachS (branching (l - 1)) (below (l - 1)) n s (8 + c) p = reach-by (Branch c) h ∙ rw (v, lt-ltb c n i) refl in
-      ap floated (sym q)
-
--- the end at a slot
-pub end-broken : (l w : ℕ) {t : Bool} (a : Bool) → t ≡ isFinite w → t ≡ false → Broken ≡ floated (reachOf l a w)
-end-broken l w a p q = sym (rw (sym p ∙ q) refl)
-
-pub end-number : (l w : ℕ) {t a : Bool} {x : Float} (b : Bool) → t ≡ isFinite w → t ≡ true → a ≡ b → x ≡ value w → cond b (Active l x) (Ends.Hidden l x) ≡ floated (reachOf l a w)
-end-number l w true p q r e = ap (Active l) e ∙ sym (rw (sym p ∙ q, r) refl)
-end-number l w false p q r e = ap (Ends.Hidden l) e ∙ sym (rw (sym p ∙ q, r) refl)
-
--- ---- the need of an end is that of the walk
-pub need-insert : (q : Reach) (w : ℕ) → needInsertE (floated q) (value w) ≡ needInsertR q w
-unfolding equal
-need-insert (active l u) w = refl
-need-insert (hidden l u) w = refl
-need-insert broken w = refl
-
-pub need-remove : (q : Reach) → needRemoveE (floated q) ≡ needRemoveR q
-need-remove (active l u) = refl
-need-remove (hidden l u) = refl
-need-remove broken = refl
 
 -- ---- what the code has read of the lists
 module _ (slots masks book : List ℕ) {n x k : ℕ} (i : In n x k) where

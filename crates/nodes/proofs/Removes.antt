@@ -36,11 +36,12 @@ use Rattle.nodes.proofs.Paths.{one-less}
 use Rattle.nodes.proofs.Inserts.{go-stop, grow-low, grow-is}
 
 -- ---- hide
-pub hide-step : (n : ℕ) (mk mk' sl book : List ℕ) {x k : ℕ} → In n x k → ((j : ℕ) → bitOf mk' j ≡ cond (eqb j (valBit n x k)) false (bitOf mk j))
+pub hide-step : (n : ℕ) (mk mk' sl book : List ℕ) {x k i : ℕ} → In n x k → i ≡ wordOf x k → ((j : ℕ) → bitOf mk' j ≡ cond (eqb j (64 * (64 + n) + i)) false (bitOf mk j))
     → st n sl mk' book ≡ hideS x k (st n sl mk book)
 unfolding st hideS
-hide-step n mk mk' sl book i r =
-    st-ext _ _ (λ _ _. refl) (val-kid n (bitOf mk) (bitOf mk') false i r) (val-val n (bitOf mk) (bitOf mk') false i r) refl (λ _. refl) (λ _. refl) (λ _. refl)
+hide-step n mk mk' sl book {x} {k} m e r =
+    let q : (j : ℕ) → bitOf mk' j ≡ cond (eqb j (valBit n x k)) false (bitOf mk j) = λ j. r j ∙ ap (λ (h : ℕ). cond (eqb j (64 * (64 + n) + h)) false (bitOf mk j)) e in
+    st-ext _ _ (λ _ _. refl) (val-kid n (bitOf mk) (bitOf mk') false m q) (val-val n (bitOf mk) (bitOf mk') false m q) refl (λ _. refl) (λ _. refl) (λ _. refl)
 
 -- ---- a word is 0 if none of its bits is on
 pub word-off : (mk : List ℕ) (i : ℕ) → getD mk i 0 < 2 ^ 64 → eqb (getD mk i 0) 0 ≡ every (λ j. not (bitOf mk (64 * i + j))) 64

@@ -5,7 +5,7 @@ pub mod Change
 pub mod Walk
 pub mod Test
 pub mod Range
-pub mod Ends
+pub mod Place
 pub mod Steps
 pub mod Insert
 pub mod Remove

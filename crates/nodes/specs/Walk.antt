@@ -6,14 +6,12 @@ use Prim.Native.Nat.{ℕ, zero, suc, _+_, _*_, _/_, _%_}
 use lib.IntN.{ℤ, pos}
 use lib.ListN.{length}
 use lib.Dec.{ltb, leb}
-use Rattle.floats.specs.Value.{value, isFinite, equal, far}
+use Rattle.floats.specs.Value.{isFinite, equal, far}
 use Rattle.grid.specs.Geometry.{Point, masked, slotOf}
 use Rattle.nodes.specs.State.{St}
 use Rattle.nodes.specs.Change.{putS, attachS, next}
 use Rattle.nodes.specs.declared.walk.Slot.{Slot}
 use Rattle.nodes.specs.declared.walk.Slot.the-variants as slot
-use Rattle.nodes.specs.declared.walk.Ends.{Ends}
-use Rattle.nodes.specs.declared.walk.Ends.the-variants.{Active, Hidden, Broken}
 
 -- ---- the table of levels of the grid of 128, with branching 3, 2 and 2: 2 is a top, 1 a middle node, 0 a leaf
 
@@ -71,12 +69,6 @@ reachS b (c ∷ bs) n s x p =
     cond (s .kid x k)
     (cond (s .val x k) broken (cond (ltb (s .slot x k) n) (reachS c bs n s (8 + s .slot x k) p) broken))
     (reachAt (suc (length bs)) s x k)
-
--- the code's answer carries floats
-abbrev pub floated : Reach → Ends
-floated (active l w) = Active l (value w)
-floated (hidden l w) = Hidden l (value w)
-floated broken = Broken
 
 -- the cells that an insert of the word w needs, and a remove: one for each level below the slot reached
 abbrev pub needInsertR : Reach → ℕ → ℕ

@@ -15,19 +15,27 @@ ghost use Prim.Native.Nat.{ℕ, _+_, _-_, _/_, _<_, _≤_};
 ghost use lib.ListN.{length, getD};
 ghost use lib.Dec.{eqb};
 ghost use Rattle.bitset.specs.Set.{bitOf};
-ghost use Rattle.nodes.specs.Layout.{Sized, st, countPlace, stackPlace, tagPlace, slotsLength};
+ghost use Rattle.nodes.specs.Layout.{Sized, st, wordOf, countPlace, stackPlace, tagPlace, slotsLength};
 ghost use Rattle.nodes.specs.Change.{putS, attachS, releaseS, markS, next};
 ghost use Rattle.nodes.specs.Range.{In, Cells, Masked, Booked};
 ghost use Rattle.nodes.specs.Steps.{slotS, cellS, takeS, giveS, Spare, roomS};
 ghost use Rattle.nodes.specs.Walk.{readyS};
 
-// Slot k of node x holds the word w, active or hidden. Its bit in the child mask stays. The promise holds whatever the book.
+// The slot whose word is at place i holds the word w, active or hidden. Its bit in the child mask stays. The promise holds whatever the book.
+pub fn put_at(slots: &mut [u32], masks: &mut [u64], n: usize, i: usize, w: u32, active: bool)
+    requires { ⌜ (Cells n (now slots) (now masks)) × (i < slotsLength n) ⌝ }
+    ensures { λ _. ⌜ ((book : List ℕ) (x k : ℕ) → In n x k → i ≡ wordOf x k → st n (now (slots .exit)) (now (masks .exit)) book ≡ putS x k w active (st n (now (slots .entry)) (now (masks .entry)) book)) ⌝ }
+{
+    slots[i] = w;
+    bitset::set(masks, 64 * (TOP_MASKS + n) + i, active);
+}
+
+// The same of slot k of node x.
 pub fn put(slots: &mut [u32], masks: &mut [u64], n: usize, x: usize, k: usize, w: u32, active: bool)
     requires { ⌜ (Cells n (now slots) (now masks)) × In n x k ⌝ }
     ensures { λ _. ⌜ ((book : List ℕ) → st n (now (slots .exit)) (now (masks .exit)) book ≡ putS x k w active (st n (now (slots .entry)) (now (masks .entry)) book)) ⌝ }
 {
-    memory::set_word(slots, x, k, w);
-    memory::set_val(masks, n, x, k, active);
+    put_at(slots, masks, n, memory::word_of(x, k), w, active);
 }
 
 // The slot's word and both its bits.

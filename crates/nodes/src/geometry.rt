@@ -4,6 +4,7 @@ ghost use mathlib.Core.List.{[], _∷_};
 ghost use Prim.Native.Nat.{_<_, _≤_};
 ghost use Rattle.grid.specs.Geometry.{masked, slotOf};
 ghost use Rattle.grid.specs.Node.{size};
+ghost use Rattle.nodes.specs.Place.{pathOf};
 ghost use Rattle.nodes.specs.Walk.{branching, below, pointOf, voxelAt, voxels};
 
 // A level's constants are made of the branchings. `size_in` and `voxel` hold them to the meaning: each size is proved, and the total of the top.
@@ -101,4 +102,11 @@ pub fn voxel(x: i32, y: i32, z: i32) -> usize
     ensures { λ r. ⌜ (r ≡ voxelAt x y z) × (r < voxels) ⌝ }
 {
     masked7(x) * LAYER + masked7(y) * SIDE + masked7(z)
+}
+
+// The slots of voxel v on its way down: that of the top, and above it those of the middle node and of the leaf.
+pub fn path(v: usize) -> usize
+    ensures { λ r. ⌜ r ≡ pathOf 3 (2 ∷ 2 ∷ []) (pointOf v) ⌝ }
+{
+    Top::slot(v) + Top::SIZE * (Middle::slot(v) + Middle::SIZE * Leaf::slot(v))
 }

@@ -5,5 +5,6 @@ pub mod cells;
 pub mod geometry;
 pub mod memory;
 pub mod remove;
+pub mod seek;
 pub mod walk;
 pub mod wipe;

@@ -93,3 +93,11 @@ pub fn set_val(masks: &mut [u64], n: usize, x: usize, k: usize, on: bool)
 {
     bitset::set(masks, 64 * (TOP_MASKS + n) + word_of(x, k), on);
 }
+
+// Bit k of mask word q, by the bit's weight: two tests of one bit then reckon it once.
+pub fn bit_in(masks: &[u64], q: usize, k: usize) -> bool
+    requires { ⌜ (q < length (now masks)) × (k < 64) ⌝ }
+    ensures { λ r. ⌜ r ≡ bitOf (now (masks .entry)) (64 * q + k) ⌝ }
+{
+    masks[q] & bitset::value_mask(k) != 0
+}

@@ -8,24 +8,44 @@ use super::walk;
 use super::walk::Below;
 use super::walk::Slot;
 ghost use mathlib.Core.Path.{_≡_};
-ghost use mathlib.Core.Bool.{not};
+ghost use mathlib.Core.Bool.{true, false, not};
 ghost use mathlib.Core.List.{List};
-ghost use Prim.Native.Nat.{ℕ, _+_, _*_, _<_};
+ghost use Prim.Native.Nat.{ℕ, _+_, _*_, _<_, _≤_};
 ghost use lib.ListN.{length};
 ghost use Rattle.bitset.specs.Set.{bitOf, every};
 ghost use Rattle.nodes.specs.Change.{hideS};
-ghost use Rattle.nodes.specs.Layout.{Sized, st};
+ghost use Rattle.nodes.specs.Layout.{Sized, st, wordOf, slotsLength};
 ghost use Rattle.nodes.specs.Range.{In, Masked, Stands};
-ghost use Rattle.nodes.specs.Remove.{bareS, shutM, removeM};
+ghost use Rattle.nodes.specs.Remove.{noneS, bareS, shutM, removeM};
 ghost use Rattle.nodes.specs.Split.{goOnR, splitR, splitS};
 ghost use Rattle.nodes.specs.Walk.{branching, below, pointOf};
 
-// Slot k of node x is hidden and keeps its word. The promise holds whatever the words and the book.
+// The slot whose word is at place i is hidden and keeps its word. The promise holds whatever the words and the book.
+pub fn hide_at(masks: &mut [u64], n: usize, i: usize)
+    requires { ⌜ (Masked n (now masks)) × (i < slotsLength n) ⌝ }
+    ensures { λ _. ⌜ ((slots book : List ℕ) (x k : ℕ) → In n x k → i ≡ wordOf x k → st n slots (now (masks .exit)) book ≡ hideS x k (st n slots (now (masks .entry)) book)) ⌝ }
+{
+    bitset::set(masks, 64 * (TOP_MASKS + n) + i, false);
+}
+
+// The same of slot k of node x.
 pub fn hide(masks: &mut [u64], n: usize, x: usize, k: usize)
     requires { ⌜ (Masked n (now masks)) × In n x k ⌝ }
     ensures { λ _. ⌜ ((slots book : List ℕ) → st n slots (now (masks .exit)) book ≡ hideS x k (st n slots (now (masks .entry)) book)) ⌝ }
 {
-    memory::set_val(masks, n, x, k, false);
+    hide_at(masks, n, memory::word_of(x, k));
+}
+
+// Another slot than the one at place i is active in its leaf, and stays so where that one is hidden.
+pub fn shared(masks: &[u64], n: usize, i: usize) -> bool
+    requires { ⌜ (Masked n (now masks)) × (i < slotsLength n) ⌝ }
+    ensures { λ r. ⌜ ((slots book : List ℕ) (x k : ℕ) → In n x k → 8 ≤ x → i ≡ wordOf x k → r ≡ true → noneS (hideS x k (st n slots (now (masks .entry)) book) .val) x ≡ false) ⌝ }
+{
+    let w = masks[TOP_MASKS + n + i / 64];
+    if w == 0 {
+        return false;
+    }
+    w != bitset::value_mask(i)
 }
 
 // None of the 64 bits of word i is on.

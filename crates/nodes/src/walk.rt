@@ -1,4 +1,4 @@
-// The walk to a voxel.
+// The walk to a voxel that inserts.
 use super::cells;
 use super::geometry;
 use super::memory;
@@ -8,23 +8,15 @@ ghost use mathlib.Core.List.{List};
 ghost use Rattle.floats.specs.Value.{isFinite};
 ghost use Prim.Native.Nat.{ℕ};
 ghost use Rattle.nodes.specs.Layout.{Sized, st};
-ghost use Rattle.nodes.specs.Ends.{reachOf, needInsertE, needRemoveE};
 ghost use Rattle.nodes.specs.Insert.{growS, growR, openS, openR, stepS, stepR};
 ghost use Rattle.nodes.specs.Range.{In, Stands, Cells};
-ghost use Rattle.nodes.specs.Walk.{branching, below, pointOf, closedS, viewS, reachS, floated, stays, insertM};
+ghost use Rattle.nodes.specs.Walk.{branching, below, pointOf, closedS, viewS, stays, insertM};
 
 // What a slot is: a branch to a cell, or a word that is active or hidden.
 pub enum Slot {
     Branch(usize),
     Tile(u32),
     Hidden(u32),
-}
-
-// Where a walk ends: the level of the slot reached, and its value, active or hidden; or the path is broken.
-pub enum Ends {
-    Active(usize, f32),
-    Hidden(usize, f32),
-    Broken,
 }
 
 // A slot that is no branch. The book says nothing of it, so the promise holds whatever the book.
@@ -51,63 +43,6 @@ pub fn view(slots: &[u32], masks: &[u64], n: usize, level: usize, x: usize, k: u
         return Slot::Branch(memory::word(slots, x, k) as usize);
     }
     closed(slots, masks, n, x, k)
-}
-
-// A slot of a level with the word w, active or hidden: no end if w is no number.
-fn end_at(level: usize, w: u32, active: bool) -> Ends
-    ensures { λ r. ⌜ r ≡ floated (reachOf level active w) ⌝ }
-{
-    if !floats::finite_word(w) {
-        return Ends::Broken;
-    }
-    if active {
-        return Ends::Active(level, floats::float_of(w));
-    }
-    Ends::Hidden(level, floats::float_of(w))
-}
-
-// The walk to voxel v from node x of a level. A slot in both masks, or a link that leaves the pool, breaks it.
-pub fn reach(slots: &[u32], masks: &[u64], n: usize, level: usize, x: usize, v: usize) -> Ends
-    requires { ⌜ (Cells n (now slots) (now masks)) × Stands n level x ⌝ }
-    ensures { λ r. ⌜ ((book : List ℕ) → r ≡ floated (reachS (branching level) (below level) n (st n (now (slots .entry)) (now (masks .entry)) book) x (pointOf v))) ⌝ }
-{
-    let k = geometry::slot_in(level, v);
-    let s = view(slots, masks, n, level, x, k);
-    match s {
-        Slot::Branch(c) => {
-            if memory::val(masks, n, x, k) {
-                return Ends::Broken;
-            }
-            if c < n {
-                return reach(slots, masks, n, level - 1, 8 + c, v);
-            }
-            Ends::Broken
-        }
-        Slot::Tile(w) => end_at(level, w, true),
-        Slot::Hidden(w) => end_at(level, w, false),
-    }
-}
-
-// The cells that an insert of the number y needs at the end of a walk: one for each level below the slot reached, and none where it holds y.
-pub fn need_insert(e: Ends, y: f32) -> usize
-    ensures { λ r. ⌜ r ≡ needInsertE e y ⌝ }
-{
-    match e {
-        Ends::Active(level, x) => if x == y { 0 } else { level },
-        Ends::Hidden(level, _) => level,
-        Ends::Broken => 0,
-    }
-}
-
-// The cells that a remove needs.
-pub fn need_remove(e: Ends) -> usize
-    ensures { λ r. ⌜ r ≡ needRemoveE e ⌝ }
-{
-    match e {
-        Ends::Active(level, _) => level,
-        Ends::Hidden(_, _) => 0,
-        Ends::Broken => 0,
-    }
 }
 
 // An insert of w stops at a tile of u: it is equal, or it is not finite and is carried nowhere.

@@ -6,6 +6,7 @@ pub mod Checks
 pub mod Own
 pub mod Groups
 pub mod Promises
+pub mod Ends
 pub mod Afford
 pub mod Turns
 pub mod WholePromises

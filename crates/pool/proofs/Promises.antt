@@ -11,12 +11,11 @@ use Rattle.grid.specs.Geometry.{Point, total}
 use Rattle.seats.specs.Call.{Act, Call, Answer, One, Lookup, refused, found}
 use Rattle.nodes.specs.State.{St}
 use Rattle.nodes.specs.Layout.{Sized, st}
-use Rattle.nodes.specs.Walk.{Reach, active, hidden, broken, reachS, floated, pointOf, voxelOf}
-use Rattle.nodes.specs.declared.walk.Ends.{Ends}
+use Rattle.nodes.specs.Walk.{Reach, active, hidden, broken, reachS, pointOf, voxelOf}
 use Rattle.means.specs.Mem.{Mem, cellsOf, fits, poolOf, walk}
 use Rattle.means.proofs.Points.{reach-same, voxel-alike}
 use Rattle.means.proofs.Memory.{fitting}
-use Rattle.pool.specs.Answers.{Says, foundOf, shownE}
+use Rattle.pool.specs.Answers.{Says, foundOf, shownR}
 use Rattle.pool.specs.declared.voxel.Found.{Found}
 
 -- the number of cells as the code has it: 0 exactly if the lengths do not belong together
@@ -91,13 +90,11 @@ module _ (m : Mem) (n : ℕ) (h : Counted n m) (z : n ≡ 0 → ⊥) where
   pub counted-2 : {R : Type 0} (f : Answer → R) (i : ℕ) (c : Act) → 7 < i → Says f (One i c) m (f (refused 2)) m
   counted-2 f i c l = (refused 2, refl, rw (is-fit, le-leb 8 i l) (refl, refl))
 
-  pub lookup-says : (i v : ℕ) (p : Point) {e : Ends} {r : Found} → i ≤ 7 → v ≡ voxelOf p
-      → e ≡ floated (reachS 3 (2 ∷ 2 ∷ []) n (st n (m .slots) (m .masks) (m .book)) i (pointOf v)) → r ≡ shownE e
+  pub lookup-says : (i v : ℕ) (p : Point) {r : Found} → i ≤ 7 → v ≡ voxelOf p → r ≡ shownR (reachS 3 (2 ∷ 2 ∷ []) n (st n (m .slots) (m .masks) (m .book)) i (pointOf v))
       → Says foundOf (One i (Lookup p)) m r m
-  lookup-says i v p l d a b =
-      subst (λ (r : Found). Says foundOf (One i (Lookup p)) m r m) (sym (b ∙ ap shownE (a ∙ ap floated (is-walk i v p d)))) (go (walk m i p) refl)
+  lookup-says i v p l d b = subst (λ (r : Found). Says foundOf (One i (Lookup p)) m r m) (sym (b ∙ ap shownR (is-walk i v p d))) (go (walk m i p) refl)
     where
-      go : (r : Reach) → walk m i p ≡ r → Says foundOf (One i (Lookup p)) m (shownE (floated r)) m
+      go : (r : Reach) → walk m i p ≡ r → Says foundOf (One i (Lookup p)) m (shownR r) m
       go (active k w) e = (found (some w), refl, rw (is-fit, lt-leb 8 i (omega arith), e) (refl, refl))
       go (hidden k w) e = (found none, refl, rw (is-fit, lt-leb 8 i (omega arith), e) (refl, refl))
       go broken e = (refused 5, refl, rw (is-fit, lt-leb 8 i (omega arith), e) (refl, refl))

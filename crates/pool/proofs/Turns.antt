@@ -2,17 +2,16 @@
 use mathlib.Core.Path.{_≡_, refl, sym, ap, ap₂, _∙_}
 use mathlib.Core.Bool.{Bool, true, false, not, cond, _&&_}
 use mathlib.Core.List.{[], _∷_}
-use mathlib.Core.Option.{Option, none, some}
-use Prim.Native.Nat.{ℕ, zero, suc, _-_, _/_, _<_, _≤_}
+use mathlib.Core.Option.{none, some}
+use Prim.Native.Nat.{ℕ, _-_, _/_, _<_, _≤_}
 use native.Mathlib.Omega.{arith}
 use lib.ListN.{length}
 use lib.Dec.{leb, eqb}
 use borrow.Author.Tests.{lt-leb}
-use lib.Ieee.{Float}
-use Rattle.floats.specs.Value.{value, isFinite}
+use Rattle.floats.specs.Value.{isFinite}
 use Rattle.grid.specs.Geometry.{Point, total}
 use Rattle.grid.specs.Node.{Node, put}
-use Rattle.seats.specs.Call.{Act, Call, One, Insert, Remove, refused, done}
+use Rattle.seats.specs.Call.{Act, One, Insert, Remove, refused, done}
 use Rattle.seats.specs.Promise.{Keeps, turn, loose}
 use Rattle.seats.specs.Refusal.{refusal}
 use Rattle.seats.specs.Seat.{Seat, State}
@@ -22,10 +21,7 @@ use Rattle.seats.proofs.Promise.{served-step}
 use Rattle.nodes.specs.State.{St}
 use Rattle.nodes.specs.Layout.{st, tops}
 use Rattle.nodes.specs.Change.{markS}
-use Rattle.nodes.specs.Walk.{Reach, active, hidden, broken, floated, needInsertR, needRemoveR, insertM, pointOf, voxelOf}
-use Rattle.nodes.specs.Ends.{needInsertE, needRemoveE}
-use Rattle.nodes.specs.declared.walk.Ends.{Ends}
-use Rattle.nodes.proofs.Paths.{need-insert, need-remove}
+use Rattle.nodes.specs.Walk.{Reach, active, hidden, broken, needInsertR, needRemoveR, insertM, pointOf, voxelOf}
 use Rattle.nodes.specs.Remove.{removeM}
 use Rattle.nodes.specs.Test.{soundB}
 use Rattle.means.specs.Level.{levels, Turned}
@@ -38,7 +34,7 @@ use Rattle.means.proofs.Insert.{insert-right}
 use Rattle.means.proofs.Remove.{remove-right}
 use Rattle.means.proofs.Unspoilt.{unspoilt-mark, insert-unspoilt, remove-unspoilt}
 use Rattle.pool.specs.Lent.{lent}
-use Rattle.pool.specs.Answers.{Says, codeOf, blockedE, insertBlocked, removeBlocked}
+use Rattle.pool.specs.Answers.{Says, codeOf, blockedR, insertBlocked, removeBlocked}
 use Rattle.pool.specs.Guard.{orNone}
 use Rattle.pool.proofs.Guards.{blocked-says}
 use Rattle.pool.proofs.Promises.{Counted, is-fit, is-cells, is-pool, is-walk}
@@ -84,17 +80,17 @@ afford-is true false = refl
 afford-is false y = refl
 
 blocked-is : (n : ℕ) (s : St) (q : Reach) (need : ℕ)
-    → cond (not (whole q && linked n s need)) (some 5) (cond (not (leb need (s .count))) (some 9) none) ≡ orNone (blockedE n s (floated q) need)
+    → cond (not (whole q && linked n s need)) (some 5) (cond (not (leb need (s .count))) (some 9) none) ≡ orNone (blockedR n s q need)
 blocked-is n s (active k w) need = afford-is (linked n s need) (leb need (s .count))
 blocked-is n s (hidden k w) need = afford-is (linked n s need) (leb need (s .count))
 blocked-is n s broken need = refl
 
 module _ (m : Mem) (i : ℕ) (l : i < 8) (p : Point) (fit : fits m ≡ true) where
   pub insert-refusal : (w : ℕ) → isFinite w ≡ true
-      → refusal (readsIn m) (One i (Insert p w)) ≡ orNone (blockedE (cellsOf m) (poolOf m) (floated (walk m i p)) (needInsertR (walk m i p) w))
+      → refusal (readsIn m) (One i (Insert p w)) ≡ orNone (blockedR (cellsOf m) (poolOf m) (walk m i p) (needInsertR (walk m i p) w))
   insert-refusal w f = rw (fit, lt-leb 8 i l, f) (blocked-is (cellsOf m) (poolOf m) (walk m i p) (needInsertR (walk m i p) w))
 
-  pub remove-refusal : refusal (readsIn m) (One i (Remove p)) ≡ orNone (blockedE (cellsOf m) (poolOf m) (floated (walk m i p)) (needRemoveR (walk m i p)))
+  pub remove-refusal : refusal (readsIn m) (One i (Remove p)) ≡ orNone (blockedR (cellsOf m) (poolOf m) (walk m i p) (needRemoveR (walk m i p)))
   remove-refusal = rw (fit, lt-leb 8 i l) (blocked-is (cellsOf m) (poolOf m) (walk m i p) (needRemoveR (walk m i p)))
 
 -- an insert or a remove that nothing refuses: on a sound pool the rule, on any other no slot is spoilt
@@ -136,10 +132,10 @@ module _ (m m' : Mem) (i : ℕ) (l : i < 8) (p : Point) (fit : fits m ≡ true) 
 -- ---- as the code does it, by the number of the voxel, on memory for n cells
 
 module _ (m : Mem) (n : ℕ) (h : Counted n m) (z : n ≡ 0 → ⊥) (i v : ℕ) (l : i ≤ 7) (p : Point) (d : v ≡ voxelOf p) where
-  insert-number : (w : ℕ) → insertBlocked n (st n (m .slots) (m .masks) (m .book)) (pointOf v) w i ≡ blockedE (cellsOf m) (poolOf m) (floated (walk m i p)) (needInsertR (walk m i p) w)
+  insert-number : (w : ℕ) → insertBlocked n (st n (m .slots) (m .masks) (m .book)) (pointOf v) w i ≡ blockedR (cellsOf m) (poolOf m) (walk m i p) (needInsertR (walk m i p) w)
   insert-number w = cc (is-cells m n h z, is-pool m n h z, is-walk m n h z i v p d)
 
-  remove-number : removeBlocked n (st n (m .slots) (m .masks) (m .book)) (pointOf v) i ≡ blockedE (cellsOf m) (poolOf m) (floated (walk m i p)) (needRemoveR (walk m i p))
+  remove-number : removeBlocked n (st n (m .slots) (m .masks) (m .book)) (pointOf v) i ≡ blockedR (cellsOf m) (poolOf m) (walk m i p) (needRemoveR (walk m i p))
   remove-number = cc (is-cells m n h z, is-pool m n h z, is-walk m n h z i v p d)
 
   -- the value is tested after the seat
@@ -178,16 +174,3 @@ module _ (m : Mem) (n : ℕ) (h : Counted n m) (z : n ≡ 0 → ⊥) (i v : ℕ)
       where
         same : removeM 3 (2 ∷ 2 ∷ []) n (pointOf v) ≡ removeM 3 (2 ∷ 2 ∷ []) n p
         same = ap (λ (j : ℕ). removeM 3 (2 ∷ 2 ∷ []) n (pointOf j)) d ∙ sym (remove-same 7 p (pointOf (voxelOf p)) (voxel-alike p) 3 (2 ∷ 2 ∷ []) (omega arith) n)
-
--- ---- the number of the refusal at the end of a walk, as the code finds it
-
-pub blocked-at : (n need : ℕ) {r : ℕ} (s : St) {e e' : Ends} → e ≡ e' → r ≡ blockedE n s e' need → r ≡ blockedE n s e need
-blocked-at n need s d f = f ∙ sym (ap (λ (x : Ends). blockedE n s x need) d)
-
-pub insert-ends : (n w : ℕ) (s : St) {need r : ℕ} {y : Float} {e : Ends} (q : Reach) → e ≡ floated q → y ≡ value w → need ≡ needInsertE e y → r ≡ blockedE n s e need
-    → r ≡ blockedE n s (floated q) (needInsertR q w)
-insert-ends n w s q d f g h = h ∙ ap₂ (λ (x : Ends) (k : ℕ). blockedE n s x k) d (g ∙ ap₂ needInsertE d f ∙ need-insert q w)
-
-pub remove-ends : (n : ℕ) (s : St) {need r : ℕ} {e : Ends} (q : Reach) → e ≡ floated q → need ≡ needRemoveE e → r ≡ blockedE n s e need
-    → r ≡ blockedE n s (floated q) (needRemoveR q)
-remove-ends n s q d g h = h ∙ ap₂ (λ (x : Ends) (k : ℕ). blockedE n s x k) d (g ∙ ap needRemoveE d ∙ need-remove q)

@@ -8,13 +8,12 @@ use native.Mathlib.Omega.{arith}
 use lib.ListN.{length, getD, take, drop}
 use lib.Dec.{ltb, leb, eqb}
 use borrow.Author.Tests.{ltb-true, lt-leb}
-use Rattle.floats.specs.Value.{isFinite, negative}
+use Rattle.floats.specs.Value.{negative}
 use Rattle.floats.proofs.Words.{on-case}
-use Rattle.floats.proofs.Floats.{word-value}
 use Rattle.bitset.specs.Set.{bitOf, every, empty}
 use Rattle.bitset.proofs.Every.{both-ways, and-both, every-intro, every-elim}
 use Rattle.bitset.proofs.Parts.{bit-part}
-use Rattle.grid.specs.Geometry.{Point, slotOf}
+use Rattle.grid.specs.Geometry.{Point}
 use Rattle.grid.specs.Node as node
 use Rattle.grid.specs.Node.{Node, isHidden, size}
 use Rattle.grid.specs.Whole.{isEmpty}
@@ -23,9 +22,8 @@ use Rattle.seats.specs.Refusal.{refusal}
 use Rattle.seats.specs.Seat.{Seat, State, fresh}
 use Rattle.seats.specs.Step.{step, play, served}
 use Rattle.nodes.specs.State.{St, slotAt, tree}
-use Rattle.nodes.specs.Layout.{st, wordOf, countPlace, inside}
-use Rattle.nodes.specs.Walk.{Reach, active, hidden, broken, reachAt, reachS, floated, pointOf, voxelOf}
-use Rattle.nodes.specs.declared.walk.Ends.{Ends}
+use Rattle.nodes.specs.Layout.{st, wordOf, countPlace}
+use Rattle.nodes.specs.Walk.{Reach, active, hidden, broken, reachS, pointOf, voxelOf}
 use Rattle.nodes.proofs.Places.{word-top}
 use Rattle.nodes.proofs.States.{st-kid, st-val}
 use Rattle.means.specs.Level.{Same}
@@ -34,7 +32,7 @@ use Rattle.means.specs.Mem.{Mem, cellsOf, poolOf, SoundMem, seatOf, stateOf, le
 use Rattle.means.specs.Prepared.{Ready}
 use Rattle.means.proofs.Memory.{fitting, seat-is}
 use Rattle.means.proofs.Prepared.{ready-sound, ready-fresh}
-use Rattle.pool.specs.Answers.{Says, codeOf, countOf, whetherOf, finiteE, signedE}
+use Rattle.pool.specs.Answers.{Says, codeOf, countOf, whetherOf, signedR}
 use Rattle.pool.specs.Guard.{orNone, guardOf}
 use Rattle.pool.specs.declared.whole.Free.the-variants as free
 use Rattle.pool.specs.declared.whole.Whether.{Whether}
@@ -146,75 +144,25 @@ module _ (n : ℕ) (slots masks book : List ℕ) (t : ℕ) (l : t < 8) where
     pub vals-say : not r ≡ false → (q : Bool) → q ≡ empty vals 512 → q ≡ isEmpty 3 (2 ∷ 2 ∷ []) grid
     vals-say f q d = d ∙ sym (empty-is ∙ rw (passed r e f) refl)
 
--- ---- where a walk ends in memory: a finite word of 32 bits
-
-abbrev Reached : Reach → Type 0
-Reached (active l w) = (w < 0x1_0000_0000) × (isFinite w ≡ true)
-Reached (hidden l w) = (w < 0x1_0000_0000) × (isFinite w ≡ true)
-Reached broken = Unit {0}
-
--- each word has 32 bits
-abbrev Short : List ℕ → Type 0
-Short slots = (j : ℕ) → getD slots j 0 < 0x1_0000_0000
-
-module _ (n : ℕ) (slots masks book : List ℕ) (h : Short slots) (p : Point) where
-  short : (x k : ℕ) → st n slots masks book .slot x k < 0x1_0000_0000
-  unfolding st
-  short x k = on-case (inside n x k) (λ e. rw e (h (wordOf x k))) (λ e. rw e (omega arith))
-
-  at-reached : (l x k : ℕ) → Reached (reachAt l (st n slots masks book) x k)
-  at-reached l x k = on-case (isFinite (st n slots masks book .slot x k))
-      (λ e. on-case (st n slots masks book .val x k) (λ d. rw (e, d) (short x k, e)) (λ d. rw (e, d) (short x k, e)))
-      (λ e. rw e tt)
-
-  reached : (b : ℕ) (bs : List ℕ) (x : ℕ) → Reached (reachS b bs n (st n slots masks book) x p)
-  unfolding reachS
-  reached b [] x = at-reached 0 x (slotOf b [] p)
-  reached b (c ∷ bs) x =
-      let k = slotOf b (c ∷ bs) p in
-      let s = st n slots masks book in
-      on-case (s .kid x k)
-      (λ e. on-case (s .val x k)
-      (λ d. rw (e, d) tt)
-      (λ d. on-case (ltb (s .slot x k) n)
-      (λ f. rw (e, d, f) (reached c bs (8 + s .slot x k)))
-      (λ f. rw (e, d, f) tt)))
-      (λ e. rw e (at-reached _ x k))
-
--- so the float at the end of the walk to a voxel is finite
-pub finite-end : (m : Mem) (n : ℕ) → Short (m .slots) → (i v : ℕ) {e : Ends}
-    → e ≡ floated (reachS 3 (2 ∷ 2 ∷ []) n (st n (m .slots) (m .masks) (m .book)) i (pointOf v)) → finiteE e ≡ true
-unfolding isFinite
-finite-end m n h i v a = ap finiteE a ∙ go (reachS 3 (2 ∷ 2 ∷ []) n (st n (m .slots) (m .masks) (m .book)) i (pointOf v)) (reached n (m .slots) (m .masks) (m .book) h (pointOf v) 3 (2 ∷ 2 ∷ []) i)
-  where
-    go : (r : Reach) → Reached r → finiteE (floated r) ≡ true
-    go (active l w) g = g .1
-    go (hidden l w) g = g .1
-    go broken g = refl
-
 -- ---- a memory whose lengths belong together, for n cells
 
 module _ (m : Mem) (n : ℕ) (h : Counted n m) (z : n ≡ 0 → ⊥) where
-  -- the sign at a point of seat i, by the end e of the walk there and the seat's mark
-  pub sign-says : Short (m .slots) → (i v : ℕ) (p : Point) {e : Ends} {r : Whether} → i ≤ 7 → v ≡ voxelOf p
-      → e ≡ floated (reachS 3 (2 ∷ 2 ∷ []) n (st n (m .slots) (m .masks) (m .book)) i (pointOf v)) → r ≡ signedE e (eqb (getD (m .book) i 0) 1)
+  -- the sign at a point of seat i, by the end of the walk there and the seat's mark
+  pub sign-says : (i v : ℕ) (p : Point) {r : Whether} → i ≤ 7 → v ≡ voxelOf p
+      → r ≡ signedR (reachS 3 (2 ∷ 2 ∷ []) n (st n (m .slots) (m .masks) (m .book)) i (pointOf v)) (eqb (getD (m .book) i 0) 1)
       → Says whetherOf (One i (Sign p)) m r m
-  sign-says w i v p l d a b =
-      subst (λ (r : Whether). Says whetherOf (One i (Sign p)) m r m) (sym (b ∙ ap₂ signedE (a ∙ ap floated (is-walk m n h z i v p d)) filled))
-      (go (walk m i p) (eqb (poolOf m .mark i) 1) refl refl (subst Reached (is-walk m n h z i v p d) (reached n (m .slots) (m .masks) (m .book) w (pointOf v) 3 (2 ∷ 2 ∷ []) i)))
+  sign-says i v p l d b =
+      subst (λ (r : Whether). Says whetherOf (One i (Sign p)) m r m) (sym (b ∙ ap₂ signedR (is-walk m n h z i v p d) filled)) (go (walk m i p) (eqb (poolOf m .mark i) 1) refl refl)
     where
       filled : eqb (getD (m .book) i 0) 1 ≡ eqb (poolOf m .mark i) 1
       filled = ap (λ (k : ℕ). eqb k 1) (sym (st-mark n (m .slots) (m .masks) (m .book) i (omega arith)) ∙ ap (λ (s : St). s .mark i) (is-pool m n h z))
 
-      back : (u : ℕ) → (u < 0x1_0000_0000) × (isFinite u ≡ true) → signedE (floated (active 0 u)) true ≡ whether.Is (negative u)
-      back u g = ap (λ (x : ℕ). whether.Is (negative x)) (word-value u (g .0) (g .1))
-
-      go : (r : Reach) (f : Bool) → walk m i p ≡ r → eqb (poolOf m .mark i) 1 ≡ f → Reached r → Says whetherOf (One i (Sign p)) m (signedE (floated r) f) m
-      go (active k u) true e q g = (negativeIs (negative u), back u g, rw (is-fit m n h z, lt-leb 8 i (omega arith), e, q) (refl, refl))
-      go (active k u) false e q g = (refused 6, refl, rw (is-fit m n h z, lt-leb 8 i (omega arith), e, q) (refl, refl))
-      go (hidden k u) true e q g = (negativeIs (negative u), back u g, rw (is-fit m n h z, lt-leb 8 i (omega arith), e, q) (refl, refl))
-      go (hidden k u) false e q g = (refused 6, refl, rw (is-fit m n h z, lt-leb 8 i (omega arith), e, q) (refl, refl))
-      go broken f e q g = (refused 5, refl, rw (is-fit m n h z, lt-leb 8 i (omega arith), e) (refl, refl))
+      go : (r : Reach) (f : Bool) → walk m i p ≡ r → eqb (poolOf m .mark i) 1 ≡ f → Says whetherOf (One i (Sign p)) m (signedR r f) m
+      go (active k u) true e q = (negativeIs (negative u), refl, rw (is-fit m n h z, lt-leb 8 i (omega arith), e, q) (refl, refl))
+      go (active k u) false e q = (refused 6, refl, rw (is-fit m n h z, lt-leb 8 i (omega arith), e, q) (refl, refl))
+      go (hidden k u) true e q = (negativeIs (negative u), refl, rw (is-fit m n h z, lt-leb 8 i (omega arith), e, q) (refl, refl))
+      go (hidden k u) false e q = (refused 6, refl, rw (is-fit m n h z, lt-leb 8 i (omega arith), e, q) (refl, refl))
+      go broken f e q = (refused 5, refl, rw (is-fit m n h z, lt-leb 8 i (omega arith), e) (refl, refl))
 
 -- ---- a call that tests the whole pool and is served
 pub count-says : (m : Mem) → refusal (readsIn m) Count ≡ none → (k : ℕ) → k ≡ getD (m .book) countPlace 0 → Says countOf Count m (free.Cells k) m

@@ -1,21 +1,18 @@
 -- What the functions of this crate answer: for each case of an answer of document 01 the case of the enum, with its number and value. Assumes nothing.
 use mathlib.Core.Path.{_≡_}
-use mathlib.Core.Bool.{Bool, true, false, cond}
+use mathlib.Core.Bool.{Bool, false, cond}
 use mathlib.Core.List.{List, [], _∷_}
 use mathlib.Core.Option.{none, some}
-use Prim.Native.Nat.{ℕ}
-use lib.Ieee.{Float, binary32, toBits}
-use lib.Ieee.Scale.{finite}
+use Prim.Native.Nat.{ℕ, _<_}
 use Rattle.floats.specs.Value.{value, negative}
 use Rattle.seats.specs.Call.{Call, Answer, refused, found, negativeIs, emptyIs, freeCells, done}
 use Rattle.seats.specs.Promise.{Promise}
 use lib.Dec.{leb}
 use Rattle.nodes.specs.State.{St}
 use Rattle.grid.specs.Geometry.{Point}
-use Rattle.nodes.specs.Walk.{reachS, floated, needInsertR, needRemoveR}
+use Rattle.nodes.specs.Walk.{Reach, active, hidden, broken, reachS, needInsertR, needRemoveR}
+use Rattle.nodes.specs.Place.{placeS, packed}
 use Rattle.means.specs.Mem.{Mem, linked}
-use Rattle.nodes.specs.declared.walk.Ends.{Ends}
-use Rattle.nodes.specs.declared.walk.Ends.the-variants.{Active, Hidden, Broken}
 use Rattle.pool.specs.Lent.{lent}
 use Rattle.pool.specs.declared.voxel.Found.{Found}
 use Rattle.pool.specs.declared.voxel.Found.the-variants.{Value, Nothing, Refused}
@@ -50,27 +47,31 @@ codeOf (emptyIs k) = 0
 codeOf (freeCells k) = 0
 codeOf done = 0
 
+-- r is the number of the end of the walk to the point p of seat i
+abbrev pub EndsAt : ℕ → St → ℕ → Point → ℕ → Type 0
+EndsAt n s i p r = (i < 8) × (r ≡ packed (placeS 3 (2 ∷ 2 ∷ []) n s i p))
+
 -- where a walk ended, as a lookup answers it
-abbrev pub shownE : Ends → Found
-shownE (Active l w) = Value w
-shownE (Hidden l w) = Nothing
-shownE Broken = Refused 5
+abbrev pub shownR : Reach → Found
+shownR (active l w) = Value (value w)
+shownR (hidden l w) = Nothing
+shownR broken = Refused 5
 
 -- whether a call on one voxel that needs so many cells is refused at its end: 5 where the path is broken or a link among the free cells needed leaves the pool, then 9
 abbrev pub affordS : ℕ → St → ℕ → ℕ
 affordS n s need = cond (linked n s need) (cond (leb need (s .count)) 0 9) 5
 
-abbrev pub blockedE : ℕ → St → Ends → ℕ → ℕ
-blockedE n s (Active l w) need = affordS n s need
-blockedE n s (Hidden l w) need = affordS n s need
-blockedE n s Broken need = 5
+abbrev pub blockedR : ℕ → St → Reach → ℕ → ℕ
+blockedR n s (active l w) need = affordS n s need
+blockedR n s (hidden l w) need = affordS n s need
+blockedR n s broken need = 5
 
 -- of an insert of the word w at the point p of seat i, and of a remove
 abbrev pub insertBlocked : ℕ → St → Point → ℕ → ℕ → ℕ
-insertBlocked n s p w i = let q = reachS 3 (2 ∷ 2 ∷ []) n s i p in blockedE n s (floated q) (needInsertR q w)
+insertBlocked n s p w i = let q = reachS 3 (2 ∷ 2 ∷ []) n s i p in blockedR n s q (needInsertR q w)
 
 abbrev pub removeBlocked : ℕ → St → Point → ℕ → ℕ
-removeBlocked n s p i = let q = reachS 3 (2 ∷ 2 ∷ []) n s i p in blockedE n s (floated q) (needRemoveR q)
+removeBlocked n s p i = let q = reachS 3 (2 ∷ 2 ∷ []) n s i p in blockedR n s q (needRemoveR q)
 
 -- ---- the calls on the pool, and those that only read a seat
 
@@ -92,17 +93,8 @@ whetherOf (emptyIs k) = whether.Is k
 whetherOf (freeCells k) = whether.Is false
 whetherOf done = whether.Is false
 
--- the number at the end of a walk is finite
-abbrev pub finiteE : Ends → Bool
-finiteE (Active l x) = finite x
-finiteE (Hidden l x) = finite x
-finiteE Broken = true
-
--- the sign of the number x, and that at the end of a walk, in a seat that is filled or not
-abbrev pub signedF : Float → Bool → Whether
-signedF x filled = cond filled (whether.Is (negative (toBits binary32 x))) (whether.Refused 6)
-
-abbrev pub signedE : Ends → Bool → Whether
-signedE (Active l x) filled = signedF x filled
-signedE (Hidden l x) filled = signedF x filled
-signedE Broken filled = whether.Refused 5
+-- the sign at the end of a walk, in a seat that is filled or not
+abbrev pub signedR : Reach → Bool → Whether
+signedR (active l w) filled = cond filled (whether.Is (negative w)) (whether.Refused 6)
+signedR (hidden l w) filled = cond filled (whether.Is (negative w)) (whether.Refused 6)
+signedR broken filled = whether.Refused 5

@@ -1,25 +1,24 @@
 // Preparing and counting the pool, and the calls that ask whether something is so of a seat. Preparing alone changes memory, and only once the lengths are known to belong together.
 use super::guard;
 use super::lengths;
+use nodes::geometry;
 use nodes::geometry::Top;
 use nodes::memory::COUNT;
 use nodes::memory::TOP_MASKS;
 use nodes::memory::TOP_WORDS;
-use nodes::walk;
-use nodes::walk::Ends;
+use nodes::seek;
+use nodes::seek::ENDS;
 ghost use mathlib.Core.Path.{_≡_};
-ghost use mathlib.Core.Bool.{true};
 ghost use mathlib.Core.List.{List, [], _∷_};
-ghost use Prim.Native.Nat.{ℕ, _<_};
-ghost use lib.Ieee.Scale.{finite};
+ghost use Prim.Native.Nat.{ℕ, _%_, _<_};
 ghost use Rattle.grid.specs.Geometry.{Point};
 ghost use Rattle.grid.specs.Whole.{isEmpty};
 ghost use Rattle.seats.specs.Call.{One, Sign, IsEmpty, Prepare, Count};
 ghost use Rattle.nodes.specs.State.{tree};
-ghost use Rattle.nodes.specs.Layout.{st};
-ghost use Rattle.nodes.specs.Range.{Masked};
-ghost use Rattle.nodes.specs.Walk.{voxelOf, voxels};
-ghost use Rattle.pool.specs.Answers.{memOf, Says, codeOf, countOf, whetherOf, finiteE, signedF, signedE};
+ghost use Rattle.nodes.specs.Layout.{st, slotsLength};
+ghost use Rattle.nodes.specs.Range.{Slotted, Masked};
+ghost use Rattle.nodes.specs.Walk.{reachS, voxelOf, voxels};
+ghost use Rattle.pool.specs.Answers.{memOf, Says, codeOf, countOf, EndsAt, whetherOf, signedR};
 
 // Every cell is freed and every seat emptied, whatever the memory held. Answers 0, or 1 where the lengths do not belong together.
 pub fn prepare(slots: &mut [u32], masks: &mut [u64], book: &mut [u32]) -> u32
@@ -81,27 +80,23 @@ pub fn is_empty(slots: &[u32], masks: &[u64], book: &[u32], seat: u32) -> Whethe
     Whether::Is(both_empty(masks, n, seat as usize))
 }
 
-// Whether the float x reached in a seat is negative, which only a filled seat tells. -0 is negative, so the sign bit is looked at and no number compared.
-fn signed(x: f32, filled: bool) -> Whether
-    requires { ⌜ finite x ≡ true ⌝ }
-    ensures { λ r. ⌜ r ≡ signedF x filled ⌝ }
+// Whether the value at the end of a walk, of the number r, is negative, which only a filled seat tells. A broken path is refused first, filled or not. -0 is negative, so the
+// sign bit is looked at and no number compared.
+fn signed(slots: &[u32], n: usize, r: usize, filled: bool) -> Whether
+    requires { ⌜ (Slotted n (now slots)) × (r % 0x100_0000 < slotsLength n) ⌝ }
+    ensures { λ f. ⌜ ((masks book : List ℕ) (p : Point) (i : ℕ) → EndsAt n (st n (now (slots .entry)) masks book) i p r → f ≡ signedR (reachS 3 (2 ∷ 2 ∷ []) n (st n (now (slots .entry)) masks book) i p) filled) ⌝ }
 {
+    if r == 0 {
+        return Whether::Refused(5);
+    }
+    let w = slots[r % ENDS];
+    if !floats::finite_word(w) {
+        return Whether::Refused(5);
+    }
     if filled {
-        return Whether::Is(floats::negative_word(floats::word_of(x)));
+        return Whether::Is(floats::negative_word(w));
     }
     Whether::Refused(6)
-}
-
-// The same at the end of a walk, active or hidden. A broken path is refused first, filled or not.
-fn signed_end(e: Ends, filled: bool) -> Whether
-    requires { ⌜ finiteE e ≡ true ⌝ }
-    ensures { λ r. ⌜ r ≡ signedE e filled ⌝ }
-{
-    match e {
-        Ends::Active(_, x) => signed(x, filled),
-        Ends::Hidden(_, x) => signed(x, filled),
-        Ends::Broken => Whether::Refused(5),
-    }
 }
 
 // Whether the value at a voxel of a filled seat, active or hidden, is negative. A mark of 1 alone is set.
@@ -117,6 +112,6 @@ pub fn sign(slots: &[u32], masks: &[u64], book: &[u32], seat: u32, v: usize) -> 
         return Whether::Refused(2);
     }
     let t = seat as usize;
-    let e = walk::reach(slots, masks, n, 2, t, v);
-    signed_end(e, book[t] == 1)
+    let r = seek::seek(slots, masks, n, t, geometry::path(v));
+    signed(slots, n, r, book[t] == 1)
 }

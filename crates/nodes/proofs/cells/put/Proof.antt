@@ -1,24 +1,25 @@
-use Rattle.nodes.proofs.States.{word-may, val-may}
-use Rattle.nodes.proofs.Changes.{put-step}
+use native.Mathlib.Omega.{arith}
+use Rattle.nodes.proofs.Places.{word-lt}
+use Rattle.nodes.proofs.States.{word-may}
 use borrow.Author.Needs.{needs}
 use Rattle.nodes.proofs.cells.put.Statement.{statement}
 use Rattle.nodes.proofs.cells.put.Tie as tie
 
-set-word-requires : tie.Need-set-word-requires
-set-word-requires c κs = word-may (c .before .before .before .pre .0) (c .before .before .before .pre .1)
+word-of-requires : tie.Need-word-of-requires
+word-of-requires c κs =
+    let s = c .before .before .before .before .pre in
+    let p = word-may (s .0) (s .1) in
+    (p .node, p .slot)
 
-set-val-requires : tie.Need-set-val-requires
-set-val-requires c κs = val-may (c .before .before .before .before .before .before .before .pre .0) (c .before .before .before .before .before .before .before .pre .1)
-
-same-length : tie.Need-same-length
-same-length c = search needs
-
-same-length-2 : tie.Need-same-length-2
-same-length-2 c = search needs
+put-at-requires : tie.Need-put-at-requires
+put-at-requires c κs =
+    let s = c .before .before .before .before .before .pre in
+    (s .0, omega (arith, c .word-of .ensures, word-lt (s .1)))
 
 returns : tie.Need-returns
-returns c = λ book. put-step _ _ _ _ _ book _ _ (c .before .before .before .before .before .before .before .before .before .before .pre .0) (c .before .before .before .before .before .before .before .before .before .before .pre .1) (c .before .before .before .before .before .before .set-word .ensures) (c .before .before .set-val .ensures)
+returns c book =
+    let p = c .before .before .before .before in
+    p .put-at .ensures book _ _ (p .before .before .before .before .before .before .pre .1) (p .before .word-of .ensures)
 
 pub put-spec : {M : Type 1} → statement M
-put-spec =
-    tie.close (tie.spec set-word-requires set-val-requires same-length same-length-2 returns)
+put-spec = tie.close (tie.spec word-of-requires put-at-requires (λ c. search needs) (λ c. search needs) returns)

@@ -1,18 +1,25 @@
 use native.Mathlib.Omega.{arith}
-use Rattle.nodes.proofs.Places.{placed}
-use Rattle.nodes.proofs.Removes.{hide-step}
+use Rattle.nodes.specs.Layout.{slotsLength}
+use Rattle.nodes.proofs.Places.{placed, word-lt}
 use borrow.Author.Needs.{needs}
 use Rattle.nodes.proofs.remove.hide.Statement.{statement}
 use Rattle.nodes.proofs.remove.hide.Tie as tie
 
-set-val-requires : tie.Need-set-val-requires
-set-val-requires c κs = (c .before .before .pre .0, placed (c .before .before .pre .0 .most) (c .before .before .pre .1) _ (omega arith))
+word-of-requires : tie.Need-word-of-requires
+word-of-requires c κs =
+    let s = c .before .before .pre in
+    let p = placed (s .0 .most) (s .1) (slotsLength (c .before .before .args .n)) (omega arith) in
+    (p .node, p .slot)
 
-same-length : tie.Need-same-length
-same-length c = search needs
+hide-at-requires : tie.Need-hide-at-requires
+hide-at-requires c κs =
+    let s = c .before .before .before .pre in
+    (s .0, omega (arith, c .word-of .ensures, word-lt (s .1)))
 
 returns : tie.Need-returns
-returns c = λ slots book. hide-step _ _ _ slots book (c .before .before .before .before .before .pre .1) (c .before .before .set-val .ensures)
+returns c slots book =
+    let h = c .before .before in
+    h .hide-at .ensures slots book _ _ (h .before .before .before .before .pre .1) (h .before .word-of .ensures)
 
 pub hide-spec : {M : Type 1} → statement M
-hide-spec = tie.close (tie.spec set-val-requires same-length returns)
+hide-spec = tie.close (tie.spec word-of-requires hide-at-requires (λ c. search needs) returns)

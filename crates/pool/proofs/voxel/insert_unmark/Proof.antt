@@ -1,26 +1,43 @@
 use mathlib.Core.Path.{ap, _∙_}
 use Rattle.nodes.specs.Change.{markS}
 use Rattle.nodes.proofs.Paths.{top-stands}
+use Rattle.nodes.proofs.States.{cells-of}
+use Rattle.pool.proofs.Ends.{ends-low, insert-leaf}
 use borrow.Author.Needs.{needs}
 use Rattle.pool.proofs.voxel.insert_unmark.Statement.{statement}
 use Rattle.pool.proofs.voxel.insert_unmark.Tie as tie
 
-insert-requires : tie.Need-insert-requires
-insert-requires c κs =
-    let z = c .before .before .before .before .before .before .pre in
-    (z .0, top-stands _ _ (z .1), z .2)
-
-same-length : tie.Need-same-length
-same-length c = search needs
-
-same-length-2 : tie.Need-same-length-2
-same-length-2 c = search needs
-
-same-length-3 : tie.Need-same-length-3
-same-length-3 c = search needs
+put-at-requires : tie.Need-put-at-requires
+put-at-requires c κs =
+    let s = c .before .before .before .before .before .before .pre in
+    (cells-of (s .0), ends-low _ _ (s .0 .most) (s .2))
 
 returns : tie.Need-returns
-returns c = c .before .before .set-mark .ensures _ _ _ ∙ ap (markS _ 0) (c .before .before .before .before .before .before .before .before .before .before .insert .ensures)
+returns c =
+    let s = c .before .before .before .before .before .before .before .before .before .before .before .before .before .before .before .pre in
+    c .before .before .set-mark .ensures _ _ _ ∙ ap (markS _ 0) (insert-leaf _ _ (s .0 .most) (s .2) (c .before .before .before .before .before .before .before .before .before .before .before .if1 .taken) _ (c .before .before .before .before .before .before .before .before .put-at .ensures _))
+
+insert-requires : tie.Need-insert-requires
+insert-requires c κs =
+    let s = c .before .before .before .before .before .before .before .pre in
+    (s .0, top-stands _ _ (s .2 .0), s .1)
+
+returns-2 : tie.Need-returns-2
+returns-2 c = c .before .before .set-mark2 .ensures _ _ _ ∙ ap (markS _ 0) (c .before .before .before .before .before .before .before .before .before .before .insert .ensures)
 
 pub insert-unmark-spec : {M : Type 1} → statement M
-insert-unmark-spec = tie.close (tie.spec insert-requires (λ c κs. search needs) same-length same-length-2 same-length-3 returns)
+insert-unmark-spec =
+    tie.close
+    (tie.spec
+    put-at-requires
+    (λ c κs. search needs)
+    (λ c. search needs)
+    (λ c. search needs)
+    (λ c. search needs)
+    returns
+    insert-requires
+    (λ c κs. search needs)
+    (λ c. search needs)
+    (λ c. search needs)
+    (λ c. search needs)
+    returns-2)

@@ -1,26 +1,49 @@
 use mathlib.Core.Path.{ap, _∙_}
 use Rattle.nodes.specs.Change.{markS}
 use Rattle.nodes.proofs.Paths.{top-stands}
+use Rattle.pool.proofs.Ends.{ends-low, remove-leaf}
 use borrow.Author.Needs.{needs}
 use Rattle.pool.proofs.voxel.remove_unmark.Statement.{statement}
 use Rattle.pool.proofs.voxel.remove_unmark.Tie as tie
 
-remove-requires : tie.Need-remove-requires
-remove-requires c κs =
-    let z = c .before .before .before .before .before .before .pre in
-    (z .0, top-stands _ _ (z .1))
+stays-requires : tie.Need-stays-requires
+stays-requires c κs =
+    let s = c .before .before .before .before .pre in
+    (record { most = s .0 .most; masks-fit = s .0 .masks-fit }, ends-low _ _ (s .0 .most) (s .1))
 
-same-length : tie.Need-same-length
-same-length c = search needs
-
-same-length-2 : tie.Need-same-length-2
-same-length-2 c = search needs
-
-same-length-3 : tie.Need-same-length-3
-same-length-3 c = search needs
+hide-at-requires : tie.Need-hide-at-requires
+hide-at-requires c κs =
+    let s = c .before .before .before .before .before .before .before .pre in
+    (record { most = s .0 .most; masks-fit = s .0 .masks-fit }, ends-low _ _ (s .0 .most) (s .1))
 
 returns : tie.Need-returns
-returns c = c .before .before .set-mark .ensures _ _ _ ∙ ap (markS _ 0) (c .before .before .before .before .before .before .before .before .before .before .remove .ensures)
+returns c =
+    let s = c .before .before .before .before .before .before .before .before .before .before .before .before .before .before .pre in
+    let t = c .before .before .before .before .before .before .before .before .before .stays .ensures in
+    let h = c .before .before .before .before .before .before .before .before .if1 .taken in
+    c .before .before .set-mark .ensures _ _ _ ∙ ap (markS _ 0) (remove-leaf _ _ (s .0 .most) (s .1) (t .0 h) (c .before .before .before .before .before .before .hide-at .ensures _ _) (λ x k m l e. t .1 _ _ x k m l e h))
+
+remove-requires : tie.Need-remove-requires
+remove-requires c κs =
+    let s = c .before .before .before .before .before .before .before .before .before .pre in
+    (s .0, top-stands _ _ (s .1 .0))
+
+returns-2 : tie.Need-returns-2
+returns-2 c = c .before .before .set-mark2 .ensures _ _ _ ∙ ap (markS _ 0) (c .before .before .before .before .before .before .before .before .before .before .remove .ensures)
 
 pub remove-unmark-spec : {M : Type 1} → statement M
-remove-unmark-spec = tie.close (tie.spec remove-requires (λ c κs. search needs) same-length same-length-2 same-length-3 returns)
+remove-unmark-spec =
+    tie.close
+    (tie.spec
+    stays-requires
+    hide-at-requires
+    (λ c κs. search needs)
+    (λ c. search needs)
+    (λ c. search needs)
+    returns
+    remove-requires
+    (λ c κs. search needs)
+    (λ c. search needs)
+    (λ c. search needs)
+    (λ c. search needs)
+    returns-2)

@@ -1,17 +1,16 @@
 use denote.Ref.{now}
 use native.Mathlib.Omega.{arith}
 use Rattle.seats.specs.Call.{One, Sign}
-use Rattle.nodes.proofs.Paths.{top-stands}
+use Rattle.nodes.specs.Walk.{pointOf}
+use Rattle.nodes.specs.Layout.{st}
 use Rattle.nodes.proofs.States.{cells-of}
 use Rattle.pool.specs.Answers.{memOf, whetherOf}
 use Rattle.pool.proofs.Promises.{counted-1, counted-2, is-sized}
-use Rattle.pool.proofs.WholePromises.{finite-end, sign-says}
+use Rattle.pool.proofs.WholePromises.{sign-says}
+use Rattle.pool.proofs.Ends.{ends-low}
 use borrow.Author.Needs.{needs}
 use Rattle.pool.proofs.whole.sign.Statement.{statement}
 use Rattle.pool.proofs.whole.sign.Tie as tie
-
-cells-requires : tie.Need-cells-requires
-cells-requires c κs = search needs
 
 returns : tie.Need-returns
 returns c p e =
@@ -20,53 +19,45 @@ returns c p e =
 
 returns-2 : tie.Need-returns-2
 returns-2 c p e =
-    let f = c .before in
-    let a = f .before .before .before .before .before .args in
-    counted-2 (memOf (now (a .slots)) (now (a .masks)) (now (a .book))) _ (f .before .cells .ensures) (f .if1 .left) whetherOf (a .seat) (Sign p) (c .if2 .taken)
+    let a = c .before .before .before .before .before .before .args in
+    counted-2 (memOf (now (a .slots)) (now (a .masks)) (now (a .book))) _ (c .before .before .cells .ensures) (c .before .if1 .left) whetherOf (a .seat) (Sign p) (c .if2 .taken)
 
-reach-requires : tie.Need-reach-requires
-reach-requires c κs =
-    let f = c .before in
-    let a = f .before .before .before .before .before .args in
-    let z = is-sized (memOf (now (a .slots)) (now (a .masks)) (now (a .book))) _ (f .before .cells .ensures) (f .if1 .left) in
-    let h = c .if2 .left in
-    (cells-of z, top-stands _ (a .seat) (omega (arith, h)))
+seek-requires : tie.Need-seek-requires
+seek-requires c κs =
+    let a = c .before .before .before .before .before .before .before .args in
+    let h = c .before .if2 .left in
+    (cells-of (is-sized (memOf (now (a .slots)) (now (a .masks)) (now (a .book))) _ (c .before .before .before .cells .ensures) (c .before .before .if1 .left)), omega (arith, h))
 
-mul-signed-end : tie.Need-mul-signed-end
-mul-signed-end c = search needs
-
-shared-slice-read-signed-end : tie.Need-shared-slice-read-signed-end
-shared-slice-read-signed-end c =
-    let f = c .before .before .before in
-    let a = f .before .before .before .before .before .args in
-    let z = is-sized (memOf (now (a .slots)) (now (a .masks)) (now (a .book))) _ (f .before .cells .ensures) (f .if1 .left) in
-    let h = c .before .before .if2 .left in
+shared-slice-read-signed : tie.Need-shared-slice-read-signed
+shared-slice-read-signed c =
+    let a = c .before .before .before .before .before .before .before .before .before .args in
+    let z = is-sized (memOf (now (a .slots)) (now (a .masks)) (now (a .book))) _ (c .before .before .before .before .before .cells .ensures) (c .before .before .before .before .if1 .left) in
+    let h = c .before .before .before .if2 .left in
     omega (arith, z .book-fit, h)
 
-signed-end-requires : tie.Need-signed-end-requires
-signed-end-requires c κs =
-    let g = c .before .before .before .before .before .before .before in
-    let a = g .before .args in
-    finite-end (memOf (now (a .slots)) (now (a .masks)) (now (a .book))) _ (λ j. g .shared-slice-known .given j .fits) (a .seat) _ (c .before .reach .ensures _)
+signed-requires : tie.Need-signed-requires
+signed-requires c κs =
+    let a = c .before .before .before .before .before .before .before .before .before .args in
+    let z = is-sized (memOf (now (a .slots)) (now (a .masks)) (now (a .book))) _ (c .before .before .before .before .before .cells .ensures) (c .before .before .before .before .if1 .left) in
+    let h = c .before .before .before .if2 .left in
+    (record { most = z .most; slots-fit = z .slots-fit }, ends-low (st _ (now (a .slots)) (now (a .masks)) (now (a .book))) (pointOf (a .v)) (z .most) (omega (arith, h), c .before .seek .ensures _ _ (c .before .before .path .ensures)))
 
 returns-3 : tie.Need-returns-3
 returns-3 c p e =
-    let w = c .before .before in
-    let f = w .before .before in
-    let g = f .before .before .before .before in
-    let a = g .before .args in
-    sign-says (memOf (now (a .slots)) (now (a .masks)) (now (a .book))) _ (f .before .cells .ensures) (f .if1 .left) (λ j. g .shared-slice-known .given j .fits)
-    (a .seat) _ p (w .before .if2 .left) e (w .reach .ensures _) (c .signed-end .ensures)
+    let a = c .before .before .before .before .before .before .before .before .before .before .args in
+    let h = c .before .before .before .before .if2 .left in
+    sign-says (memOf (now (a .slots)) (now (a .masks)) (now (a .book))) _ (c .before .before .before .before .before .before .cells .ensures) (c .before .before .before .before .before .if1 .left) (a .seat) (a .v) p h e (c .signed .ensures _ _ (pointOf (a .v)) (a .seat) (omega (arith, h), c .before .before .seek .ensures _ _ (c .before .before .before .path .ensures)))
 
 pub sign-spec : {M : Type 1} → statement M
 sign-spec =
     tie.close
     (tie.spec
-    cells-requires
+    (λ c κs. search needs)
     returns
     returns-2
-    reach-requires
-    mul-signed-end
-    shared-slice-read-signed-end
-    signed-end-requires
+    (λ c κs. search needs)
+    seek-requires
+    (λ c. search needs)
+    shared-slice-read-signed
+    signed-requires
     returns-3)
