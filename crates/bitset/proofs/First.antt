@@ -1,18 +1,21 @@
 -- The first bit that is on: by the leading zeros of the first word that is not 0. Assumes nothing.
-use mathlib.Core.Path.{_≡_, ap, _∙_, subst}
+use mathlib.Core.Path.{_≡_, refl, sym, ap, _∙_, subst}
 use mathlib.Core.Logic.{inl, inr}
 use mathlib.Core.List.{List}
-use mathlib.Core.Bool.{true, false}
+use mathlib.Core.Bool.{Bool, true, false, not, _&&_, and-true, false≢true}
 use Prim.Native.Nat.{ℕ, suc, _+_, _-_, _*_, _/_, _%_, _^_, _≤_, _<_}
 use native.Mathlib.Nat.{div-eq-of-lt-le, lt-of-lt-of-le, pow-suc}
 use native.Mathlib.Omega.{arith}
 use lib.Dec.{eqb}
 use lib.ListN.{getD}
+use lib.Bits.{bitAnd, and-le-l}
+use lib.Arith.{lt-of-le-ne}
 use lib.Pow.{pow-mono}
 use lib.Count.{leadingZeros, leading-top}
-use Rattle.bitset.specs.Set.{wordBit, bitOf}
+use borrow.Author.Tests.{eq-eqb, ne-eqb}
+use Rattle.bitset.specs.Set.{weight, wordBit, bitOf}
 use Rattle.bitset.proofs.Digits.{lt-or-le, digit, digit-above}
-use Rattle.bitset.proofs.Words.{bit-rem, bit-digit, zero-bit}
+use Rattle.bitset.proofs.Words.{ones, bit-rem, bit-digit, zero-bit, and-acts, not-bit, weight-lt, weight-bit}
 use Rattle.bitset.proofs.Sets.{bit-is}
 
 -- z is the place of the first bit of w that is on
@@ -46,6 +49,25 @@ leads w ne h =
 
     under : (r z j : ℕ) → r < z → z + suc j ≡ 64 → suc j ≤ 63 - r
     under r z j l e = omega arith
+
+-- the word w without bit i: where that bit was on, a lesser one
+abbrev pub less : ℕ → ℕ → ℕ
+less w i = bitAnd w (ones - weight i)
+
+pub less-bit : (w i k : ℕ) → wordBit (less w i) k ≡ wordBit w k && not (eqb (k % 64) (i % 64))
+less-bit w i k = and-acts .by-bits w (ones - weight i) k ∙ ap (λ (t : Bool). wordBit w k && t) (not-bit (weight i) k (weight-lt i) ∙ ap not (weight-bit i k))
+
+module _ {w i : ℕ} (d : Leads w i) where
+  pub less-off : wordBit (less w i) i ≡ false
+  less-off = less-bit w i i ∙ rw (eq-eqb (i % 64) (i % 64) refl, d .on) refl
+
+  pub less-lt : less w i < w
+  less-lt = lt-of-le-ne (and-le-l w (ones - weight i)) (λ e. false≢true (sym less-off ∙ ap (λ (v : ℕ). wordBit v i) e ∙ d .on))
+
+  -- the other bits are as they were
+  pub less-other : (k : ℕ) → k < 64 → (k ≡ i → ⊥) → wordBit (less w i) k ≡ wordBit w k
+  less-other k h p =
+      less-bit w i k ∙ ap (λ (t : Bool). wordBit w k && not t) (ne-eqb (k % 64) (i % 64) (λ o. p (omega (arith, o, h, d .within)))) ∙ and-true (wordBit w k)
 
 -- the words before i are 0, and so are the first z bits of word i
 pub none-before : (ws : List ℕ) (i z : ℕ) → z ≤ 64 → ((p : ℕ) → p < i → getD ws p 0 ≡ 0) → ((r : ℕ) → r < z → wordBit (getD ws i 0) r ≡ false) → (j : ℕ) → j < i * 64 + z → bitOf ws j ≡ false

@@ -5,6 +5,7 @@ pub mod Sets
 pub mod Loops
 pub mod Every
 pub mod First
+pub mod Left
 pub mod Shifts
 pub mod Parts
 pub mod Ext

@@ -3,7 +3,7 @@
 use mathlib.Core.Path.{_≡_, refl, sym, ap, ap₂, _∙_, subst}
 use mathlib.Core.Logic.{inl, inr}
 use mathlib.Core.List.{List}
-use mathlib.Core.Bool.{Bool, false, _&&_}
+use mathlib.Core.Bool.{Bool, false, _&&_, xor}
 use Prim.Native.Nat.{ℕ, _+_, _-_, _*_, _/_, _≤_, _<_}
 use native.Mathlib.Nat.{le-refl, ne-of-lt, ne-of-gt, not-le-of-lt, eq-or-lt-of-le}
 use native.Mathlib.Omega.{arith}
@@ -12,10 +12,12 @@ use lib.ListN.{length, getD, set, length-set}
 use lib.Seq.{getD-set-same, getD-set-other}
 use borrow.Author.Count.{below-none, below-more}
 use borrow.Author.Tests.{lt-ltb, le-ltb}
-use Rattle.bitset.specs.Set.{bitOf}
+use Rattle.bitset.specs.Set.{wordBit, bitOf}
+use Rattle.bitset.specs.Bits.{onBits}
+use Rattle.bitset.specs.declared.Operation.{Operation}
+use Rattle.bitset.specs.declared.Operation.the-variants.{And, Or, Xor}
 use Rattle.bitset.proofs.Digits.{lt-or-le}
-use Rattle.bitset.proofs.Words.{Acts}
-use Rattle.bitset.proofs.Sets.{Has, has-bit, has-both, has-own, bit-is, bit-past, bit-same}
+use Rattle.bitset.proofs.Sets.{Has, has-bit, has-own, bit-is, bit-past, bit-same}
 
 -- every word is written: the bits are those of g, and there are none past the end
 pub all-written : (g : ℕ → Bool) (s₀ s : List ℕ) → length s ≡ length s₀ → ((p : ℕ) → p < length s₀ → Has g p (getD s p 0)) → (k : ℕ) → bitOf s k ≡ ltb k (64 * length s₀) && g k
@@ -55,19 +57,30 @@ module _ {g : ℕ → Bool} {s₀ s : List ℕ} {i : ℕ} (d : Front g s₀ s i)
     | inr l ↦ ap (λ (b : Bool). b && g k) (le-ltb k (64 * length s₀) l) ∙ sym (z k l)
   ]
 
--- ---- the loops of the operations on two sets a and b, of as many words as the set that is written
-module _ {op : ℕ → ℕ → ℕ} {f : Bool → Bool → Bool} (acts : Acts op f) (a b : List ℕ) {s₀ s : List ℕ} {i : ℕ} (d : Front (λ k. f (bitOf a k) (bitOf b k)) s₀ s i) where
-  pub op-more : i < length s₀ → Front (λ k. f (bitOf a k) (bitOf b k)) s₀ (set s i (op (getD a i 0) (getD b i 0))) (i + 1)
-  op-more h = front-more d h (op (getD a i 0) (getD b i 0)) (has-both acts (bitOf a) (bitOf b) i (getD a i 0) (getD b i 0) (has-own a i) (has-own b i))
+-- ---- an operation on two sets a and b, of as many words as the set that is written
+abbrev pub both : Operation → List ℕ → List ℕ → ℕ → Bool
+both op a b k = onBits op (bitOf a k) (bitOf b k)
 
-  pub op-all : length s ≤ i → f false false ≡ false → length a ≡ length s₀ → length b ≡ length s₀ → (k : ℕ) → bitOf s k ≡ f (bitOf a k) (bitOf b k)
-  op-all h z ea eb = front-whole d h (λ k l. ap₂ f (bit-past a k (omega arith)) (bit-past b k (omega arith)) ∙ z)
+-- v has the bits that the operation makes of those of two words
+abbrev pub Made : Operation → ℕ → ℕ → ℕ → Type 0
+Made op w₁ w₂ v = (k : ℕ) → wordBit v k ≡ onBits op (wordBit w₁ k) (wordBit w₂ k)
+
+none-of-none : (op : Operation) → onBits op false false ≡ false
+unfolding xor
+none-of-none And = refl
+none-of-none Or = refl
+none-of-none Xor = refl
+
+module _ (op : Operation) (a b : List ℕ) {s₀ s : List ℕ} {i : ℕ} (d : Front (both op a b) s₀ s i) where
+  pub both-more : i < length s₀ → (v : ℕ) → Made op (getD a i 0) (getD b i 0) v → Front (both op a b) s₀ (set s i v) (i + 1)
+  both-more h v e = front-more d h v (λ r l. e r ∙ ap₂ (onBits op) (has-own a i r l) (has-own b i r l))
+
+  pub both-all : length s ≤ i → length a ≡ length s₀ → length b ≡ length s₀ → (k : ℕ) → bitOf s k ≡ both op a b k
+  both-all h ea eb = front-whole d h (λ k l. ap₂ (onBits op) (bit-past a k (omega arith)) (bit-past b k (omega arith)) ∙ none-of-none op)
 
 -- where a itself is written, its word at i is still the one that it had
-pub assign-more : {op : ℕ → ℕ → ℕ} {f : Bool → Bool → Bool} → Acts op f → (b : List ℕ) {a₀ a : List ℕ} {i : ℕ} → Front (λ k. f (bitOf a₀ k) (bitOf b k)) a₀ a i → i < length a₀
-    → Front (λ k. f (bitOf a₀ k) (bitOf b k)) a₀ (set a i (op (getD a i 0) (getD b i 0))) (i + 1)
-assign-more {op} {f} acts b {a₀} {a} {i} d h =
-    subst (λ (w : ℕ). Front (λ k. f (bitOf a₀ k) (bitOf b k)) a₀ (set a i (op w (getD b i 0))) (i + 1)) (sym (d .left i (le-refl i))) (op-more acts a₀ b d h)
+pub assign-more : (op : Operation) (b : List ℕ) {a₀ a : List ℕ} {i : ℕ} (d : Front (both op a₀ b) a₀ a i) → i < length a₀ → (v : ℕ) → Made op (getD a i 0) (getD b i 0) v → Front (both op a₀ b) a₀ (set a i v) (i + 1)
+assign-more op b {a₀} {a} {i} d h v e = both-more op a₀ b d h v (subst (λ (w : ℕ). Made op w (getD b i 0) v) (d .left i (le-refl i)) e)
 
 -- ---- from the back
 pub record Back (g : ℕ → Bool) (s₀ s : List ℕ) (i : ℕ) : Type 0 where

@@ -38,9 +38,6 @@ has-bit g w k h =
     let e : 64 * (k / 64) + k % 64 ≡ k = omega arith in
     bit-rem w k ∙ h (k % 64) (omega arith) ∙ ap g e
 
-pub has-cong : (f g : ℕ → Bool) (q w : ℕ) → ((k : ℕ) → f k ≡ g k) → Has f q w → Has g q w
-has-cong f g q w e h r l = h r l ∙ e (64 * q + r)
-
 -- a word of a set has the set's bits
 pub has-own : (ws : List ℕ) (q : ℕ) → Has (bitOf ws) q (getD ws q 0)
 has-own ws q r h =
@@ -90,27 +87,27 @@ bit-change {op} {f} acts ws q v h g has other =
     (λ k e. has-bit (λ k. f (bitOf ws k) (g k)) (op (getD ws q 0) v) k (subst (λ (p : ℕ). Has (λ k. f (bitOf ws k) (g k)) p (op (getD ws q 0) v)) (sym e) (has-both acts (bitOf ws) g q (getD ws q 0) v (has-own ws q) has)))
     (λ k ne. sym (other k ne))
 
--- the weight of bit i, in i's word
-weight-has : (i : ℕ) → Has (λ k. eqb k i) (i / 64) (weight i)
-weight-has i r h = weight-bit i r ∙ elim (is-or-not r (i % 64)) [
-  | inl e ↦ eq-eqb (r % 64) (i % 64) (omega arith) ∙ sym (eq-eqb (64 * (i / 64) + r) i (omega arith))
-  | inr ne ↦ ne-eqb (r % 64) (i % 64) (λ e. ne (omega arith)) ∙ sym (ne-eqb (64 * (i / 64) + r) i (λ e. ne (omega arith)))
-]
+-- ---- the word m that has bit i alone joins i's word, or leaves it
+module _ (ws : List ℕ) (i m : ℕ) (h : i / 64 < length ws) (e : m ≡ weight i) where
+  alone : Has (λ k. eqb k i) (i / 64) m
+  alone r h = ap (λ (w : ℕ). wordBit w r) e ∙ weight-bit i r ∙ elim (is-or-not r (i % 64)) [
+    | inl e ↦ eq-eqb (r % 64) (i % 64) (omega arith) ∙ sym (eq-eqb (64 * (i / 64) + r) i (omega arith))
+    | inr ne ↦ ne-eqb (r % 64) (i % 64) (λ e. ne (omega arith)) ∙ sym (ne-eqb (64 * (i / 64) + r) i (λ e. ne (omega arith)))
+  ]
 
-other-place : (k i : ℕ) → (k / 64 ≡ i / 64 → ⊥) → eqb k i ≡ false
-other-place k i ne = ne-eqb k i (λ e. ne (ap (λ (n : ℕ). n / 64) e))
+  other-place : (k : ℕ) → (k / 64 ≡ i / 64 → ⊥) → eqb k i ≡ false
+  other-place k ne = ne-eqb k i (λ e. ne (ap (λ (n : ℕ). n / 64) e))
 
-module _ (ws : List ℕ) (i : ℕ) (h : i / 64 < length ws) where
-  pub set-on : (k : ℕ) → bitOf (set ws (i / 64) (bitOr (getD ws (i / 64) 0) (weight i))) k ≡ eqb k i || bitOf ws k
+  pub set-on : (k : ℕ) → bitOf (set ws (i / 64) (bitOr (getD ws (i / 64) 0) m)) k ≡ eqb k i || bitOf ws k
   set-on k =
-      bit-change or-acts ws (i / 64) (weight i) h (λ k. eqb k i) (weight-has i)
-      (λ k ne. ap (λ (b : Bool). bitOf ws k || b) (other-place k i ne) ∙ or-comm (bitOf ws k) false) k
+      bit-change or-acts ws (i / 64) m h (λ k. eqb k i) alone
+      (λ k ne. ap (λ (b : Bool). bitOf ws k || b) (other-place k ne) ∙ or-comm (bitOf ws k) false) k
       ∙ or-comm (bitOf ws k) (eqb k i)
 
-  pub set-off : (k : ℕ) → bitOf (set ws (i / 64) (bitAnd (getD ws (i / 64) 0) (ones - weight i))) k ≡ not (eqb k i) && bitOf ws k
+  pub set-off : (k : ℕ) → bitOf (set ws (i / 64) (bitAnd (getD ws (i / 64) 0) (ones - m))) k ≡ not (eqb k i) && bitOf ws k
   set-off k =
-      bit-change and-acts ws (i / 64) (ones - weight i) h (λ k. not (eqb k i)) (has-not (λ k. eqb k i) (i / 64) (weight i) (weight-lt i) (weight-has i))
-      (λ k ne. ap (λ (b : Bool). bitOf ws k && not b) (other-place k i ne) ∙ and-comm (bitOf ws k) true) k
+      bit-change and-acts ws (i / 64) (ones - m) h (λ k. not (eqb k i)) (has-not (λ k. eqb k i) (i / 64) m (subst (λ (w : ℕ). w < 2 ^ 64) (sym e) (weight-lt i)) alone)
+      (λ k ne. ap (λ (b : Bool). bitOf ws k && not b) (other-place k ne) ∙ and-comm (bitOf ws k) true) k
       ∙ and-comm (bitOf ws k) (not (eqb k i))
 
 -- ---- the last word under the mask of the bits in use: the bits from n on are turned off

@@ -7,10 +7,12 @@
 ghost use mathlib.Core.Path.{_≡_};
 ghost use mathlib.Core.Bool.{true, false, cond, not, _&&_, _||_, xor};
 ghost use Prim.Native.Nat.{ℕ, _+_, _-_, _*_, _/_, _<_, _≤_};
+ghost use lib.Bits.{bitAnd};
 ghost use lib.ListN.{length, getD};
 ghost use lib.Dec.{eqb, leb, ltb};
 ghost use Rattle.bitset.specs.Set.{Sized, Holds, weight, wordBit, bitOf, up, down, empty, full, same};
 ghost use Rattle.bitset.specs.Answers.{FirstOn, WordAt};
+ghost use Rattle.bitset.specs.Bits.{onBits};
 
 // Every word becomes value, so the unused bits are set too.
 pub fn with(ws: &mut [u64], value: u64)
@@ -103,6 +105,13 @@ pub fn value_mask(i: usize) -> u64
     ensures { λ r. ⌜ r ≡ weight i ⌝ }
 {
     0x8000_0000_0000_0000 >> (i % 64)
+}
+
+// The word w without its bit i.
+pub fn without(w: u64, i: usize) -> u64
+    ensures { λ r. ⌜ r ≡ bitAnd w (0xffff_ffff_ffff_ffff - weight i) ⌝ }
+{
+    w & !value_mask(i)
 }
 
 // Bit i, as the lowest bit of its word moved down.
@@ -207,19 +216,19 @@ pub fn is_empty(ws: &[u64], n: usize) -> bool
     value == 0
 }
 
-// Each bit below n is on. All words go into one, by and.
+// Each bit below n is on. The bits that are off go into one word, by or.
 pub fn is_full(ws: &[u64], n: usize) -> bool
     requires { ⌜ Holds (now ws) n ⌝ }
     ensures { λ r. ⌜ r ≡ full (now (ws .entry)) n ⌝ }
 {
     let last = ws.len() - 1;
-    let mut value = ws[last] | !unused_mask(ws.len(), n);
+    let mut value = !ws[last] & unused_mask(ws.len(), n);
     let mut i = 0;
     while i < last {
-        value = value & ws[i];
+        value = value | !ws[i];
         i += 1;
     }
-    value == 0xffff_ffff_ffff_ffff
+    value == 0
 }
 
 // The sets a and b have the same bits below n. The bits in which they differ go into one word, by or.
@@ -238,16 +247,42 @@ pub fn eq(a: &[u64], b: &[u64], n: usize) -> bool
     value == 0
 }
 
+// An operation on two sets, bit by bit.
+enum Operation {
+    And,
+    Or,
+    Xor,
+}
+
+// The operation on two words.
+fn operate(op: Operation, v: u64, w: u64) -> u64
+    ensures { λ r. ⌜ ((k : ℕ) → wordBit r k ≡ onBits op (wordBit v k) (wordBit w k)) ⌝ }
+{
+    match op {
+        Operation::And => v & w,
+        Operation::Or => v | w,
+        Operation::Xor => v ^ w,
+    }
+}
+
+// a becomes what the operation makes of a and b, which have as many words.
+fn assign(op: Operation, a: &mut [u64], b: &[u64])
+    requires { ⌜ length (now b) ≡ length (now a) ⌝ }
+    ensures { λ _. ⌜ ((k : ℕ) → bitOf (now (a .exit)) k ≡ onBits op (bitOf (now (a .entry)) k) (bitOf (now (b .entry)) k)) ⌝ }
+{
+    let mut i = 0;
+    while i < a.len() {
+        a[i] = operate(op, a[i], b[i]);
+        i += 1;
+    }
+}
+
 // a becomes the bits that are in both a and b, which have as many words.
 pub fn and_assign(a: &mut [u64], b: &[u64])
     requires { ⌜ length (now b) ≡ length (now a) ⌝ }
     ensures { λ _. ⌜ ((k : ℕ) → bitOf (now (a .exit)) k ≡ bitOf (now (a .entry)) k && bitOf (now (b .entry)) k) ⌝ }
 {
-    let mut i = 0;
-    while i < a.len() {
-        a[i] = a[i] & b[i];
-        i += 1;
-    }
+    assign(Operation::And, a, b);
 }
 
 // a becomes the bits that are in a or in b.
@@ -255,11 +290,7 @@ pub fn or_assign(a: &mut [u64], b: &[u64])
     requires { ⌜ length (now b) ≡ length (now a) ⌝ }
     ensures { λ _. ⌜ ((k : ℕ) → bitOf (now (a .exit)) k ≡ bitOf (now (a .entry)) k || bitOf (now (b .entry)) k) ⌝ }
 {
-    let mut i = 0;
-    while i < a.len() {
-        a[i] = a[i] | b[i];
-        i += 1;
-    }
+    assign(Operation::Or, a, b);
 }
 
 // a becomes the bits that are in just one of a and b.
@@ -267,9 +298,17 @@ pub fn xor_assign(a: &mut [u64], b: &[u64])
     requires { ⌜ length (now b) ≡ length (now a) ⌝ }
     ensures { λ _. ⌜ ((k : ℕ) → bitOf (now (a .exit)) k ≡ xor (bitOf (now (a .entry)) k) (bitOf (now (b .entry)) k)) ⌝ }
 {
+    assign(Operation::Xor, a, b);
+}
+
+// out becomes what the operation makes of a and b. All three have as many words, and what out held does not matter.
+fn write(op: Operation, a: &[u64], b: &[u64], out: &mut [u64])
+    requires { ⌜ (length (now a) ≡ length (now out)) × (length (now b) ≡ length (now out)) ⌝ }
+    ensures { λ _. ⌜ ((k : ℕ) → bitOf (now (out .exit)) k ≡ onBits op (bitOf (now (a .entry)) k) (bitOf (now (b .entry)) k)) ⌝ }
+{
     let mut i = 0;
-    while i < a.len() {
-        a[i] = a[i] ^ b[i];
+    while i < out.len() {
+        out[i] = operate(op, a[i], b[i]);
         i += 1;
     }
 }
@@ -279,11 +318,7 @@ pub fn and(a: &[u64], b: &[u64], out: &mut [u64])
     requires { ⌜ (length (now a) ≡ length (now out)) × (length (now b) ≡ length (now out)) ⌝ }
     ensures { λ _. ⌜ ((k : ℕ) → bitOf (now (out .exit)) k ≡ bitOf (now (a .entry)) k && bitOf (now (b .entry)) k) ⌝ }
 {
-    let mut i = 0;
-    while i < out.len() {
-        out[i] = a[i] & b[i];
-        i += 1;
-    }
+    write(Operation::And, a, b, out);
 }
 
 // out becomes the bits that are in a or in b.
@@ -291,11 +326,7 @@ pub fn or(a: &[u64], b: &[u64], out: &mut [u64])
     requires { ⌜ (length (now a) ≡ length (now out)) × (length (now b) ≡ length (now out)) ⌝ }
     ensures { λ _. ⌜ ((k : ℕ) → bitOf (now (out .exit)) k ≡ bitOf (now (a .entry)) k || bitOf (now (b .entry)) k) ⌝ }
 {
-    let mut i = 0;
-    while i < out.len() {
-        out[i] = a[i] | b[i];
-        i += 1;
-    }
+    write(Operation::Or, a, b, out);
 }
 
 // out becomes the bits that are in just one of a and b.
@@ -303,11 +334,7 @@ pub fn xor(a: &[u64], b: &[u64], out: &mut [u64])
     requires { ⌜ (length (now a) ≡ length (now out)) × (length (now b) ≡ length (now out)) ⌝ }
     ensures { λ _. ⌜ ((k : ℕ) → bitOf (now (out .exit)) k ≡ xor (bitOf (now (a .entry)) k) (bitOf (now (b .entry)) k)) ⌝ }
 {
-    let mut i = 0;
-    while i < out.len() {
-        out[i] = a[i] ^ b[i];
-        i += 1;
-    }
+    write(Operation::Xor, a, b, out);
 }
 
 // out becomes the bits that are not in a, unused ones too.

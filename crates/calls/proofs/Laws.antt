@@ -7,7 +7,8 @@ use lib.IntN.{ℤ}
 use Rattle.seats.specs.Call.{Call, Answer, refused, found, negativeIs, emptyIs, freeCells, done}
 use Rattle.nodes.specs.Walk.{voxelAt}
 use Rattle.means.specs.Mem.{Mem}
-use Rattle.pool.specs.Answers.{Says, foundOf, countOf, whetherOf}
+use Rattle.voxels.specs.Answers.{Says, foundOf, whetherOf}
+use Rattle.pool.specs.Count.{countOf}
 use Rattle.calls.specs.Forms.{truth, answerOf, answerF, countAnswerOf, countF, truthAnswerOf, truthF}
 
 pub answer-same : (a : Answer) → answerF (foundOf a) ≡ answerOf a

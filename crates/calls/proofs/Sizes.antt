@@ -1,7 +1,7 @@
 -- The lengths that are told belong together: a pool can be lent exactly where lengths are told. Assumes nothing.
 use mathlib.Core.Path.{_≡_, refl, _∙_, ap}
 use mathlib.Core.Bool.{true, cond}
-use Prim.Native.Nat.{ℕ, _<_, _≤_}
+use Prim.Native.Nat.{ℕ, _<_}
 use native.Mathlib.Omega.{arith}
 use lib.ListN.{length}
 use borrow.Author.Tests.{lt-ltb, le-ltb}
@@ -9,7 +9,7 @@ use borrow.Table.Steps.{cases}
 use Rattle.nodes.specs.Layout.{slotsLength, masksLength, bookLength}
 use Rattle.means.specs.Mem.{Mem, cellsOf, fits}
 use Rattle.means.proofs.Memory.{Fitting, fitting}
-use Rattle.pool.proofs.Fits.{fit-is}
+use Rattle.sound.proofs.Fits.{fit-is}
 use Rattle.calls.specs.Forms.{noSizes, sizesOf}
 
 pub sizes-are : (n : ℕ) → 0 < n → n < 65536 → sizesOf n ≡ record { code = 0; slots = slotsLength n; masks = masksLength n; book = bookLength n }

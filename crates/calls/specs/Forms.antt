@@ -10,13 +10,13 @@ use Rattle.grid.specs.Geometry.{Point}
 use Rattle.nodes.specs.Layout.{slotsLength, masksLength, bookLength}
 use Rattle.seats.specs.Call.{Lookup, Sign, Remove, Insert, Fill, Cut, Clear, Prune, Flip, FillSigns, IsEmpty, Call, One, Two, Prepare, Count, Answer, refused, found, negativeIs, emptyIs, freeCells, done}
 use Rattle.means.specs.Mem.{Mem}
-use Rattle.pool.specs.Answers.{Says, codeOf}
-use Rattle.pool.specs.declared.voxel.Found.{Found}
-use Rattle.pool.specs.declared.voxel.Found.the-variants as look
+use Rattle.voxels.specs.Answers.{Says, codeOf}
+use Rattle.voxels.specs.declared.voxel.Found.{Found}
+use Rattle.voxels.specs.declared.voxel.Found.the-variants as look
 use Rattle.pool.specs.declared.whole.Free.{Free}
 use Rattle.pool.specs.declared.whole.Free.the-variants as free
-use Rattle.pool.specs.declared.whole.Whether.{Whether}
-use Rattle.pool.specs.declared.whole.Whether.the-variants as truths
+use Rattle.voxels.specs.declared.sign.Whether.{Whether}
+use Rattle.voxels.specs.declared.sign.Whether.the-variants as truths
 use Rattle.calls.specs.declared.GridAnswer.{GridAnswer}
 use Rattle.calls.specs.declared.GridNumber.{GridNumber}
 use Rattle.calls.specs.declared.GridSizes.{GridSizes}

@@ -6,20 +6,21 @@ use nodes::memory::CELL;
 use nodes::memory::HEAD;
 use nodes::memory::TOPS;
 use pool::pair;
-use pool::pair::Operation;
 use pool::seat;
 use pool::seat::Task;
-use pool::voxel;
-use pool::voxel::Found;
 use pool::whole;
 use pool::whole::Free;
-use pool::whole::Whether;
+use trees::take::Join;
 use trees::turn::Work;
+use voxels::sign;
+use voxels::sign::Whether;
+use voxels::voxel;
+use voxels::voxel::Found;
 ghost use mathlib.Core.Path.{_≡_};
 ghost use Rattle.floats.specs.declared.Test.the-variants.{Below, Above, Between};
 ghost use Rattle.grid.specs.Combine.{union, subtract, intersect};
 ghost use Rattle.seats.specs.Call.{One, Two, Lookup, Sign, Insert, Remove, Fill, Cut, Clear, Prune, Flip, FillSigns, IsEmpty, Copy, Combine, Prepare, Count};
-ghost use Rattle.pool.specs.Answers.{memOf};
+ghost use Rattle.voxels.specs.Answers.{memOf};
 ghost use Rattle.calls.specs.Forms.{pointAt, codeOnly, answerF, countF, truthF, Answered, noSizes, sizesOf};
 
 // Code 0: found, and value is it. Codes 1 to 9: the refusal of that number. Code 10: nothing there. The value is +0 where the code is not 0.
@@ -176,7 +177,7 @@ pub extern "C" fn yoldrick_sign(
     ensures { λ r. ⌜ Answered (One seat (Sign (pointAt x y z))) (memOf (now (slots .entry)) (now (masks .entry)) (now (book .entry))) r (memOf (now (slots .entry)) (now (masks .entry)) (now (book .entry))) ⌝ }
 {
     let v = nodes::geometry::voxel(x, y, z);
-    told(whole::sign(slots, masks, book, seat, v))
+    told(sign::sign(slots, masks, book, seat, v))
 }
 
 // The voxel at (x, y, z) becomes active with the value of these bits. They are not a float here, since the bits of a NaN are not kept by a float, and what is refused as
@@ -367,7 +368,7 @@ pub extern "C" fn yoldrick_union(
 ) -> u32
     ensures { λ r. ⌜ Answered (Two (Combine union) a b) (memOf (now (slots .entry)) (now (masks .entry)) (now (book .entry))) r (memOf (now (slots .exit)) (now (masks .exit)) (now (book .exit))) ⌝ }
 {
-    pair::combine(slots, masks, book, a, b, Operation::Union)
+    pair::combine(slots, masks, book, a, b, Join::Union)
 }
 
 // Seat a becomes what is in a and not in b, and b is empty.
@@ -381,7 +382,7 @@ pub extern "C" fn yoldrick_subtract(
 ) -> u32
     ensures { λ r. ⌜ Answered (Two (Combine subtract) a b) (memOf (now (slots .entry)) (now (masks .entry)) (now (book .entry))) r (memOf (now (slots .exit)) (now (masks .exit)) (now (book .exit))) ⌝ }
 {
-    pair::combine(slots, masks, book, a, b, Operation::Subtract)
+    pair::combine(slots, masks, book, a, b, Join::Subtract)
 }
 
 // Seat a becomes what is in both a and b, and b is empty.
@@ -395,5 +396,5 @@ pub extern "C" fn yoldrick_intersect(
 ) -> u32
     ensures { λ r. ⌜ Answered (Two (Combine intersect) a b) (memOf (now (slots .entry)) (now (masks .entry)) (now (book .entry))) r (memOf (now (slots .exit)) (now (masks .exit)) (now (book .exit))) ⌝ }
 {
-    pair::combine(slots, masks, book, a, b, Operation::Intersect)
+    pair::combine(slots, masks, book, a, b, Join::Intersect)
 }

@@ -1,30 +1,31 @@
--- Two nodes of a sound pool joined, by what the code does at each slot: where they stand, what a plan says of two slots, the plan carried out. Assumes nothing.
-use mathlib.Core.Path.{_≡_, refl, sym, ap, _∙_, subst}
-use mathlib.Core.Bool.{Bool, true, false, cond}
-use mathlib.Core.List.{List}
+-- Two nodes of a sound pool joined, by what the code does at each slot: where they stand, what their two slots are, what may be called. Assumes nothing.
+use mathlib.Core.Path.{_≡_, refl, sym, ap, ap₂, _∙_, subst}
+use mathlib.Core.Bool.{Bool, true, false, not, cond, Bool·beq}
+use mathlib.Core.List.{List, [], _∷_}
 use mathlib.Core.Logic.{_≢_}
 use Prim.Native.Nat.{ℕ, zero, suc, _+_, _-_, _*_, _<_, _≤_}
 use native.Mathlib.Omega.{arith}
 use lib.ListN.{getD}
-use lib.Dec.{ltb}
-use Rattle.floats.specs.Value.{isFinite}
+use Rattle.bitset.specs.Set.{bitOf}
+use borrow.Author.Tests.{not-true, not-false}
+use Rattle.floats.specs.Value.{isFinite, negative, farWith}
+use Rattle.grid.specs.Combine.{Operation, staysWith, settledBy}
 use Rattle.grid.specs.Node.{Node, size}
-use Rattle.grid.proofs.Places.{cond-at}
+use types.Run.{OneOf, miss}
+use denote.Enum.Declared.{tagOf}
+use Rattle.nodes.proofs.walk.Slot.{the-type}
 use Rattle.nodes.specs.State.{St, Sound}
-use Rattle.nodes.specs.Layout.{Sized, st, wordOf}
+use Rattle.nodes.specs.Layout.{Sized, st, wordOf, kidBit}
 use Rattle.nodes.specs.Each.{eachS}
 use Rattle.nodes.specs.Range.{In, Stands, Cells}
 use Rattle.nodes.specs.Walk.{branching, below, viewS}
-use Rattle.nodes.specs.Wipe.{wipeAt, emptyM}
+use Rattle.nodes.specs.declared.walk.Slot.{Slot}
 use Rattle.nodes.specs.declared.walk.Slot.the-variants.{Branch, Tile, Hidden}
+use Rattle.nodes.specs.Wipe.{wipeAt, emptyM}
 use Rattle.nodes.proofs.Places.{word-cell}
-use Rattle.nodes.proofs.Paths.{slot-of, down, one-less}
-use Rattle.nodes.proofs.States.{st-slot, cells-of}
-use Rattle.trees.specs.Plan.{settles, settledWord, settledOn, valuePlan, flatPlan, branchPlan, planS}
-use Rattle.trees.specs.Combine.{takeChildS, FiniteLeaf, carryOutS, combineAt, combineM}
-use Rattle.trees.specs.declared.plan.Join.{Join}
-use Rattle.trees.specs.declared.plan.Plan.{Plan}
-use Rattle.trees.specs.declared.plan.Plan.the-variants.{Stay, Settle, Take, Go}
+use Rattle.nodes.proofs.Paths.{slot-of, one-less}
+use Rattle.nodes.proofs.States.{st-slot, st-kid, cells-of}
+use Rattle.trees.specs.Combine.{takeM, FiniteLeaf, staysAt, meetBranch, meetValue, combineAt, combineM}
 use Rattle.means.specs.Level.{levels, span, At}
 use Rattle.means.specs.Joined.{Joined}
 use Rattle.means.proofs.Levels.{at-wide, at-inside, at-link, at-down, at-leaf-finite}
@@ -55,6 +56,38 @@ module _ {n l : ℕ} {s : St} {x y : ℕ} (h : Joinable n l s x y) where
     pub in-y : In n y k
     in-y = slot-of stands-y refl q
 
+-- ---- the answer about a slot above the leaves tells its child bit
+abbrev isBranch : Slot → Bool
+isBranch (Branch c) = true
+isBranch (Tile w) = false
+isBranch (Hidden w) = false
+
+module _ {n x k : ℕ} (l : ℕ) (slots masks : List ℕ) (i : In n x k) (p : 0 < l) where
+  bit : isBranch (viewS (below l) (st n slots masks []) x k) ≡ bitOf masks (kidBit x k)
+  unfolding viewS
+  bit = go l p ∙ st-kid slots masks [] i
+    where
+      told : (b v : Bool) (w : ℕ) → isBranch (cond b (Branch w) (cond v (Tile w) (Hidden w))) ≡ b
+      told true v w = refl
+      told false true w = refl
+      told false false w = refl
+
+      go : (l : ℕ) → 0 < l → isBranch (viewS (below l) (st n slots masks []) x k) ≡ st n slots masks [] .kid x k
+      go zero p = absurd (omega arith)
+      go (suc l) p = told (st n slots masks [] .kid x k) (st n slots masks [] .val x k) (st n slots masks [] .slot x k)
+
+  module _ {t : Slot} (e : t ≡ viewS (below l) (st n slots masks []) x k) where
+    pub view-branch : {c : ℕ} → t ≡ Branch c → true ≡ bitOf masks (kidBit x k)
+    view-branch f = sym (ap isBranch f) ∙ ap isBranch e ∙ bit
+
+    pub view-else : OneOf (1 ∷ 2 ∷ []) (tagOf the-type t) → false ≡ bitOf masks (kidBit x k)
+    view-else h = none t h ∙ ap isBranch e ∙ bit
+      where
+        none : (t : Slot) → OneOf (1 ∷ 2 ∷ []) (tagOf the-type t) → false ≡ isBranch t
+        none (Branch c) h = absurd (miss (1 ∷ 2 ∷ []) 0 tt h)
+        none (Tile w) h = refl
+        none (Hidden w) h = refl
+
 -- ---- two leaves
 finite-leaf : (n : ℕ) (slots masks book : List ℕ) → Sound n (st n slots masks book) → (x : ℕ) → At n (st n slots masks book) 0 x → FiniteLeaf slots (x - 8)
 unfolding size
@@ -72,124 +105,120 @@ leaf-may {n} {l} {slots} {masks} {book} {x} {y} e z h =
     let j : Joinable n 0 (st n slots masks book) x y = subst (λ (i : ℕ). Joinable n i (st n slots masks book) x y) e h in
     (cells-of z, stands-x j, stands-y j, finite-leaf n slots masks book (j .sound) x (j .at-x), finite-leaf n slots masks book (j .sound) y (j .at-y))
 
--- ---- what a plan says of two slots, where a and b say whether they are branches, and u and w are their words
-abbrev Says : Bool → Bool → ℕ → ℕ → Plan → Type 0
-Says a b u w Stay = Unit {0}
-Says a b u w Settle = Unit {0}
-Says a b u w Take = b ≡ true
-Says a b u w (Go c d) = (a ≡ true) × (b ≡ true) × (c ≡ u) × (d ≡ w)
-
-module _ (j : Join) (n : ℕ) where
-  value-says : (a b : Bool) (u w : ℕ) → Says a b u w (valuePlan j w)
-  value-says a b u w = cond-at (Says a b u w) (settles j w) Settle Stay (λ _. tt) (λ _. tt)
-
-  flat-says : (b v : Bool) (u w : ℕ) → Says false b u w (flatPlan j n (cond b (Branch w) (cond v (Tile w) (Hidden w))))
-  unfolding flatPlan
-  flat-says true v u w = cond-at (Says false true u w) (ltb w n) Take Stay (λ _. refl) (λ _. tt)
-  flat-says false true u w = value-says false false u w
-  flat-says false false u w = value-says false false u w
-
-  branch-says : (b v : Bool) (u w : ℕ) → Says true b u w (branchPlan j n u (cond b (Branch w) (cond v (Tile w) (Hidden w))))
-  unfolding branchPlan
-  branch-says true v u w = cond-at (Says true true u w) (ltb u n) (cond (ltb w n) (Go u w) Stay) Stay
-      (λ _. cond-at (Says true true u w) (ltb w n) (Go u w) Stay (λ _. (refl, refl, refl, refl)) (λ _. tt)) (λ _. tt)
-  branch-says false true u w = value-says true false u w
-  branch-says false false u w = value-says true false u w
-
-  closed-says : (b v : Bool) (u w : ℕ) → Says false b u w (cond (settles j u) Stay (flatPlan j n (cond b (Branch w) (cond v (Tile w) (Hidden w)))))
-  closed-says b v u w = cond-at (Says false b u w) (settles j u) Stay (flatPlan j n (cond b (Branch w) (cond v (Tile w) (Hidden w)))) (λ _. tt) (λ _. flat-says b v u w)
-
-  plan-says : (a b v v' : Bool) (u w : ℕ) → Says a b u w (planS j n (cond a (Branch u) (cond v (Tile u) (Hidden u))) (cond b (Branch w) (cond v' (Tile w) (Hidden w))))
-  unfolding planS
-  plan-says true b v v' u w = branch-says b v' u w
-  plan-says false b true v' u w = closed-says b v' u w
-  plan-says false b false v' u w = closed-says b v' u w
-
 -- ---- one slot above the leaves
 
 -- slot k of node x, where m is the level below it
-abbrev pub step : Join → ℕ → ℕ → ℕ → ℕ → ℕ → St → St
-step j n m x y = combineAt (branching m) (below m) j n (combineM (branching m) (below m) j n) x y
+abbrev pub step : Operation → ℕ → ℕ → ℕ → ℕ → ℕ → St → St
+step o n m x y = combineAt (branching m) (below m) o n (combineM (branching m) (below m) o n) x y
 
-module _ (j : Join) (n l x y k : ℕ) (s : St) where
-  abbrev planned : Plan
-  planned = planS j n (viewS (below l) s x k) (viewS (below l) s y k)
+-- the two cells below two branches may be joined
+below-may : {n : ℕ} (l x y k : ℕ) {s : St} → 0 < l → Joinable n l s x y → k < span l → s .kid x k ≡ true → s .kid y k ≡ true → Joinable n (l - 1) s (8 + s .slot x k) (8 + s .slot y k)
+below-may zero x y k p h i ex ey = absurd (omega arith)
+below-may (suc l) x y k p h i ex ey = rw (one-less l) (record {
+  sound = h .sound;
+  at-x = at-down (h .sound) l x k (h .at-x) i ex;
+  at-y = at-down (h .sound) l y k (h .at-y) i ey;
+  differ = below-differ (h .sound) l x y k (h .at-x) (h .at-y) (h .differ) i ex ey;
+})
+
+link-low : {n : ℕ} (l y k : ℕ) {s : St} → 0 < l → Sound n s → At n s l y → k < span l → s .kid y k ≡ true → s .slot y k < n
+link-low zero y k p sd h i e = absurd (omega arith)
+link-low (suc l) y k p sd h i e = at-link sd l y k h i e .inside
+
+-- a's slot, by what was read of it
+module _ (o : Operation) (slots masks book : List ℕ) {n x k : ℕ} (i : In n x k) {v : Bool} (e : v ≡ bitOf masks (kidBit x k)) where
+  pub stays-branch : v ≡ true → false ≡ staysAt o (st n slots masks book) x k
+  stays-branch h = sym (rw (st-kid slots masks book i ∙ sym e ∙ h) refl)
+
+  pub stays-value : {w : ℕ} {g t : Bool} → v ≡ false → w ≡ getD slots (wordOf x k) 0 → g ≡ negative w → t ≡ staysWith o → Bool·beq g t ≡ staysAt o (st n slots masks book) x k
+  stays-value h f p q = ap₂ Bool·beq (p ∙ ap negative (f ∙ sym (st-slot slots masks book i))) q ∙ sym (rw (st-kid slots masks book i ∙ sym e ∙ h) refl)
+
+-- whether the two slots are branches
+module _ {n l x y k : ℕ} {slots masks book : List ℕ} (z : Sized n slots masks book) (h : Joinable n l (st n slots masks book) x y) (q : k < span l) where
+  kid-x : {v : Bool} → v ≡ bitOf masks (kidBit x k) → st n slots masks book .kid x k ≡ v
+  kid-x e = st-kid slots masks book (in-x h q) ∙ sym e
+
+  pub kid-y : {v : Bool} → v ≡ bitOf masks (kidBit y k) → st n slots masks book .kid y k ≡ v
+  kid-y e = st-kid slots masks book (in-y h q) ∙ sym e
+
+  -- the link of a branch of b stays in the pool
+  pub take-low : 0 < l → st n slots masks book .kid y k ≡ true → getD slots (wordOf y k) 0 < n
+  take-low up e = subst (λ (w : ℕ). w < n) (st-slot slots masks book (in-y h q)) (link-low l y k up (h .sound) (h .at-y) q e)
+
+-- what is done at them, by what was read of them
+module _ (o : Operation) {n l x y k : ℕ} {slots masks book : List ℕ} (z : Sized n slots masks book) (h : Joinable n l (st n slots masks book) x y) (q : k < span l) where
+  abbrev s : St
+  s = st n slots masks book
 
   abbrev go : ℕ → ℕ → St → St
-  go = combineM (branching (l - 1)) (below (l - 1)) j n
+  go = combineM (branching (l - 1)) (below (l - 1)) o n
 
-  abbrev made : St
-  made = step j n (l - 1) x y k s
+  abbrev meet : St → St
+  meet = meetBranch (branching (l - 1)) (below (l - 1)) o n go x y k
 
-  -- the plan q that was made has come out as the one carried out
-  module _ {q : Plan} (p : 0 < l) where
-    carries : {q' : Plan} → q ≡ q' → q ≡ planned → carryOutS j n (emptyM n (l - 1)) go x y k s q' ≡ made
-    carries e f =
-        ap (carryOutS j n (emptyM n (l - 1)) go x y k s)
-        (sym e ∙ f ∙ ap (λ (i : ℕ). planS j n (viewS (below i) s x k) (viewS (below i) s y k)) (down l (λ z. omega arith)))
+  -- b's slot is no branch, v is the side of its word w, and t the one that settles
+  module _ {w : ℕ} {v t : Bool} (f : w ≡ getD slots (wordOf y k) 0) (e : v ≡ negative w) (g : t ≡ settledBy o) where
+    side-is : Bool·beq (negative (s .slot y k)) (settledBy o) ≡ Bool·beq v t
+    side-is = ap₂ Bool·beq (ap negative (st-slot slots masks book (in-y h q) ∙ sym f) ∙ sym e) (sym g)
 
-    pub carry-stay : q ≡ Stay → q ≡ planned → s ≡ made
-    unfolding carryOutS
-    carry-stay e f = carries e f
+    pub value-stays : not (Bool·beq v t) ≡ true → s ≡ meetValue (emptyM n (l - 1)) o n x y k s
+    value-stays i = sym (rw (side-is ∙ not-true (Bool·beq v t) i) refl)
 
-    module _ {r : St} where
-      pub carry-settle : q ≡ Settle → q ≡ planned → r ≡ wipeAt (emptyM n (l - 1)) n (settledWord j) (settledOn j) x k s → r ≡ made
-      unfolding carryOutS
-      carry-settle e f d = d ∙ carries e f
+    pub value-settles : {r : St} → not (Bool·beq v t) ≡ false → r ≡ wipeAt (emptyM n (l - 1)) n (farWith (staysWith o)) (staysWith o) x k s
+        → r ≡ meetValue (emptyM n (l - 1)) o n x y k s
+    value-settles i p = p ∙ sym (rw (side-is ∙ not-false (Bool·beq v t) i) refl)
 
-      pub carry-take : q ≡ Take → q ≡ planned → r ≡ takeChildS x y k s → r ≡ made
-      unfolding carryOutS
-      carry-take e f d = d ∙ carries e f
+  -- b's slot is a branch, and v is whether a's is one
+  module _ {v : Bool} (e : v ≡ bitOf masks (kidBit x k)) where
+    pub branch-taken : {r : St} → not v ≡ true → r ≡ takeM (branching (l - 1)) (below (l - 1)) o n x y k s → r ≡ meet s
+    branch-taken i p = p ∙ sym (rw (kid-x z h q e ∙ not-true v i) refl)
 
-      pub carry-go : {c d : ℕ} → q ≡ Go c d → q ≡ planned → r ≡ go (8 + c) (8 + d) s → r ≡ made
-      unfolding carryOutS
-      carry-go e f d = d ∙ carries e f
+    -- then c and d are the two cells
+    module _ {c d : ℕ} (i : not v ≡ false) (f : c ≡ getD slots (wordOf x k) 0) (g : d ≡ getD slots (wordOf y k) 0) where
+      c-is : c ≡ s .slot x k
+      c-is = f ∙ sym (st-slot slots masks book (in-x h q))
 
--- what the plan says of the pool
-plan-is : (j : Join) (n l x y k : ℕ) (s : St) {q q' : Plan} → q ≡ q' → q ≡ planned j n (suc l) x y k s → Says (s .kid x k) (s .kid y k) (s .slot x k) (s .slot y k) q'
-unfolding viewS
-plan-is j n l x y k s e f =
-    subst (Says (s .kid x k) (s .kid y k) (s .slot x k) (s .slot y k)) (sym f ∙ e) (plan-says j n (s .kid x k) (s .kid y k) (s .val x k) (s .val y k) (s .slot x k) (s .slot y k))
+      d-is : d ≡ s .slot y k
+      d-is = g ∙ sym (st-slot slots masks book (in-y h q))
 
-module _ (j : Join) {n : ℕ} where
-  -- a branch is taken over: its link stays in the pool
-  pub take-low : (l x y k : ℕ) (slots masks book : List ℕ) {q : Plan} → 0 < l → Joinable n l (st n slots masks book) x y → k < span l → q ≡ Take
-      → q ≡ planned j n l x y k (st n slots masks book) → getD slots (wordOf y k) 0 < n
-  take-low zero x y k slots masks book p h i e f = absurd (omega arith)
-  take-low (suc l) x y k slots masks book p h i e f =
-      subst (λ (w : ℕ). w < n) (st-slot slots masks book (in-y h i)) (at-link (h .sound) l y k (h .at-y) i (plan-is j n l x y k (st n slots masks book) e f) .inside)
+      pub branch-joined : {r : St} → r ≡ go (8 + c) (8 + d) s → r ≡ meet s
+      branch-joined p = p ∙ ap₂ (λ (c d : ℕ). go (8 + c) (8 + d) s) c-is d-is ∙ sym (rw (kid-x z h q e ∙ not-false v i) refl)
 
-  -- the two cells below may be joined
-  pub go-may : (l x y k : ℕ) {s : St} {q : Plan} {c d : ℕ} → 0 < l → Joinable n l s x y → k < span l → q ≡ Go c d → q ≡ planned j n l x y k s → Joinable n (l - 1) s (8 + c) (8 + d)
-  go-may zero x y k p h i e f = absurd (omega arith)
-  go-may (suc l) x y k {s} {q} {c} {d} p h i e f =
-      let t : Says (s .kid x k) (s .kid y k) (s .slot x k) (s .slot y k) (Go c d) = plan-is j n l x y k s e f in
-      rw (t .2, t .3, one-less l) (record {
-        sound = h .sound;
-        at-x = at-down (h .sound) l x k (h .at-x) i (t .0);
-        at-y = at-down (h .sound) l y k (h .at-y) i (t .1);
-        differ = below-differ (h .sound) l x y k (h .at-x) (h .at-y) (h .differ) i (t .0) (t .1);
-      })
+      pub cells-may : 0 < l → s .kid y k ≡ true → Joinable n (l - 1) s (8 + c) (8 + d)
+      cells-may up ey = rw (c-is, d-is) (below-may l x y k up h q (kid-x z h q e ∙ not-false v i) ey)
 
+  -- whatever the two are: v is whether a's stays, and u whether b's is a branch
+  module _ {v : Bool} (e : v ≡ staysAt o s x k) where
+    pub slot-stays : v ≡ true → s ≡ step o n (l - 1) x y k s
+    slot-stays i = sym (rw (sym e ∙ i) refl)
+
+    module _ {u : Bool} {r : St} (i : v ≡ false) (f : u ≡ bitOf masks (kidBit y k)) where
+      pub slot-branch : u ≡ true → r ≡ meet s → r ≡ step o n (l - 1) x y k s
+      slot-branch g p = p ∙ sym (rw (sym e ∙ i, kid-y z h q f ∙ g) refl)
+
+      pub slot-value : u ≡ false → r ≡ meetValue (emptyM n (l - 1)) o n x y k s → r ≡ step o n (l - 1) x y k s
+      slot-value g p = p ∙ sym (rw (sym e ∙ i, kid-y z h q f ∙ g) refl)
+
+module _ (o : Operation) {n : ℕ} where
   -- after the first k slots the two nodes may be joined still
   still : {l x y m : ℕ} {s r : St} {g : Node (levels l)} → x ≢ y → Joined n l x y m s r g → Joinable n l r x y
   still ne a = record { sound = a .sound; at-x = a .at-x; at-y = a .at-y; differ = ne }
 
-  pub upto-may : (l x y k : ℕ) {s t : St} → (l ≡ 0 → ⊥) → Joinable n l s x y → k ≤ span l → t ≡ eachS (step j n (l - 1) x y) k s → Joinable n l t x y
+  pub upto-may : (l x y k : ℕ) {s t : St} → (l ≡ 0 → ⊥) → Joinable n l s x y → k ≤ span l → t ≡ eachS (step o n (l - 1) x y) k s → Joinable n l t x y
   upto-may zero x y k z h q e = absurd (z refl)
   upto-may (suc l) x y k {s} {t} z h q e =
-      subst (λ (r : St). Joinable n (suc l) r x y) (ap (λ (m : ℕ). eachS (step j n m x y) k s) (sym (one-less l)) ∙ sym e)
-      (still (h .differ) (combine-upto j l x y (h .sound) (h .at-x) (h .at-y) (h .differ) k q))
+      subst (λ (r : St). Joinable n (suc l) r x y) (ap (λ (m : ℕ). eachS (step o n m x y) k s) (sym (one-less l)) ∙ sym e)
+      (still (h .differ) (combine-upto o l x y (h .sound) (h .at-x) (h .at-y) (h .differ) k q))
 
 -- ---- the whole node
-module _ (j : Join) (n x y : ℕ) (s : St) {t : St} where
-  pub combine-leaf : (l : ℕ) → l ≡ 0 → t ≡ combineM (branching 0) (below 0) j n x y s → t ≡ combineM (branching l) (below l) j n x y s
-  combine-leaf l e p = p ∙ ap (λ (i : ℕ). combineM (branching i) (below i) j n x y s) (sym e)
+module _ (o : Operation) (n x y : ℕ) (s : St) {t : St} where
+  pub combine-leaf : (l : ℕ) → l ≡ 0 → t ≡ combineM (branching 0) (below 0) o n x y s → t ≡ combineM (branching l) (below l) o n x y s
+  combine-leaf l e p = p ∙ ap (λ (i : ℕ). combineM (branching i) (below i) o n x y s) (sym e)
 
-  pub combine-all : (l k : ℕ) → (l ≡ 0 → ⊥) → k ≡ span l → t ≡ eachS (step j n (l - 1) x y) k s → t ≡ combineM (branching l) (below l) j n x y s
+  pub combine-all : (l k : ℕ) → (l ≡ 0 → ⊥) → k ≡ span l → t ≡ eachS (step o n (l - 1) x y) k s → t ≡ combineM (branching l) (below l) o n x y s
   unfolding combineM
-  combine-all l k z e p = p ∙ ap (λ (m : ℕ). eachS (step j n (l - 1) x y) m s) e ∙ up l z
+  combine-all l k z e p = p ∙ ap (λ (m : ℕ). eachS (step o n (l - 1) x y) m s) e ∙ up l z
     where
-      up : (l : ℕ) → (l ≡ 0 → ⊥) → eachS (step j n (l - 1) x y) (span l) s ≡ combineM (branching l) (below l) j n x y s
+      up : (l : ℕ) → (l ≡ 0 → ⊥) → eachS (step o n (l - 1) x y) (span l) s ≡ combineM (branching l) (below l) o n x y s
       up zero z = absurd (z refl)
-      up (suc l) z = ap (λ (m : ℕ). eachS (step j n m x y) (span (suc l)) s) (one-less l)
+      up (suc l) z = ap (λ (m : ℕ). eachS (step o n m x y) (span (suc l)) s) (one-less l)

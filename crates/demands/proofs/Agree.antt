@@ -15,7 +15,7 @@ use Rattle.seats.proofs.Refusal.{refusal-number}
 use Rattle.means.specs.Mem.{Mem, cellsOf, SoundMem, seatOf, readsIn}
 use Rattle.means.specs.Twins.{TwinMem}
 use Rattle.means.proofs.Twins.{state-tells, twins-state}
-use Rattle.pool.specs.Lent.{lent}
+use Rattle.voxels.specs.Lent.{lent}
 use Rattle.pool.proofs.Guards.{served-sound}
 use Rattle.calls.specs.Forms.{countAnswerOf, formOf, toC, Out, Answered}
 use Rattle.calls.specs.declared.GridNumber.{GridNumber}

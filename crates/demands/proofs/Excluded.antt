@@ -22,8 +22,8 @@ use Rattle.seats.proofs.Asked.{fresh-cleared}
 use Rattle.seats.proofs.Laws.{fresh-used}
 use Rattle.seats.proofs.Turned.{not-refused}
 use Rattle.means.specs.Mem.{Mem, SoundMem, cellsOf, seatOf, stateOf}
-use Rattle.pool.specs.Answers.{codeOf}
-use Rattle.pool.specs.Lent.{lent}
+use Rattle.voxels.specs.Answers.{codeOf}
+use Rattle.voxels.specs.Lent.{lent}
 use Rattle.pool.proofs.Guards.{served-given}
 use Rattle.calls.specs.Forms.{answerOf, number, Answered}
 use Rattle.calls.specs.declared.GridAnswer.{GridAnswer}

@@ -6,7 +6,7 @@ use Rattle.seats.specs.Call.{Prepare}
 use Rattle.seats.specs.Promise.{Run}
 use Rattle.seats.specs.Run.{strike}
 use Rattle.seats.proofs.Chains as chains
-use Rattle.pool.specs.Lent.{lent}
+use Rattle.voxels.specs.Lent.{lent}
 use Rattle.pool.proofs.WholeSeats.{zero-accepts}
 use Rattle.demands.specs.Sequence.{Made, FromPrepared, callsOf, Undisturbed, answersTo}
 use Rattle.demands.proofs.Plain.{plain, plain-chain, plain-calls, plain-undisturbed, inC, plain-answers}

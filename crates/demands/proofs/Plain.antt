@@ -8,7 +8,7 @@ use Rattle.seats.specs.Promise.{Event, Chain}
 use Rattle.seats.specs.Run as run
 use Rattle.seats.specs.Run.{keepIf, on, said}
 use Rattle.means.specs.Mem.{Mem}
-use Rattle.pool.specs.Lent.{lent}
+use Rattle.voxels.specs.Lent.{lent}
 use Rattle.calls.specs.Forms.{formOf, toC, Out, code}
 use Rattle.demands.specs.Sequence.{Made, Sequence, callsOf, told, Undisturbed, answersTo}
 use Rattle.demands.proofs.Refusals.{code-refused}

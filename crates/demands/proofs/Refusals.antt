@@ -16,8 +16,8 @@ use Rattle.seats.specs.Refusal.{first, order, refusal}
 use Rattle.seats.proofs.Refusal.{Each}
 use Rattle.nodes.specs.Test.{soundB}
 use Rattle.means.specs.Mem.{Mem, cellsOf, poolOf, readsIn}
-use Rattle.pool.specs.Lent.{lent}
-use Rattle.pool.specs.Answers.{codeOf}
+use Rattle.voxels.specs.Lent.{lent}
+use Rattle.voxels.specs.Answers.{codeOf}
 use Rattle.calls.specs.Forms.{answerOf, countAnswerOf, truthAnswerOf, Form, plain, lookup, count, whether, formOf, toC, codeIn, CodeOnly, Out, code, Answered}
 use Rattle.demands.specs.Rows.{Row, Given, Refuses}
 use Rattle.demands.proofs.Rows.{NoneBefore, row-is}

@@ -21,7 +21,7 @@ use Rattle.nodes.specs.Test.{soundB}
 use Rattle.means.specs.Mem.{Mem, cellsOf, fits, poolOf, seatOf, readsIn}
 use Rattle.means.proofs.Memory.{Fitting, fitting, mem-sound}
 use Rattle.means.proofs.Test.{sound-is}
-use Rattle.pool.proofs.Fits.{fit-is}
+use Rattle.sound.proofs.Fits.{fit-is}
 use Rattle.demands.specs.Rows.{Together, OneVoxel, lookup, sign, insert, remove, needed, Bare, BareBranch, Row, lengths, seat-above, pair-above, pair-equal, insert-value, fill-value, below-bound, above-bound, between-bound, path, free, pool, sign-unfilled, pair-unfilled, signs-bare, pair-bare, onto, few}
 use Rattle.demands.proofs.Read.{is-bare, bare-is, bare-branch, no-branch-bare, at-most-7, grid-is}
 use Rattle.demands.proofs.Voxel.{one-below, kind-is, few-is, voxel-forth, path-back, free-back}

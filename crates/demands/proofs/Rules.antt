@@ -26,8 +26,8 @@ use Rattle.means.specs.Mem.{Mem, SoundMem, seatOf, stateOf, readsIn, cellsOf, p
 use Rattle.means.proofs.Lookup.{ends-shown}
 use Rattle.means.proofs.Memory.{reads-is}
 use Rattle.means.proofs.Test.{sound-is}
-use Rattle.pool.specs.Answers.{codeOf}
-use Rattle.pool.specs.Lent.{lent}
+use Rattle.voxels.specs.Answers.{codeOf}
+use Rattle.voxels.specs.Lent.{lent}
 use Rattle.pool.proofs.WholePairs as pairs
 use Rattle.pool.proofs.WholePairs.{combine-accepted}
 use Rattle.pool.proofs.WholeSeats.{zero-accepts, said-same, others-lookup}

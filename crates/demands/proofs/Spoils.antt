@@ -18,7 +18,7 @@ use Rattle.means.specs.Once.{Path, end, branchAt, Leads}
 use Rattle.means.proofs.Once.{sound-written}
 use Rattle.means.proofs.Unspoilt.{unspoilt-same}
 use Rattle.means.proofs.Words.{words-unspoilt}
-use Rattle.pool.specs.Lent.{lent}
+use Rattle.voxels.specs.Lent.{lent}
 use Rattle.pool.proofs.Guards.{served-fits}
 use Rattle.calls.specs.Forms.{Out, Answered}
 

@@ -2,7 +2,7 @@
 ghost use mathlib.Core.List.{[], _∷_};
 ghost use lib.IntN.{pos};
 ghost use Rattle.seats.specs.Call.{One, Insert, Lookup};
-ghost use Rattle.pool.specs.Answers.{memOf};
+ghost use Rattle.voxels.specs.Answers.{memOf};
 ghost use Rattle.calls.specs.Forms.{pointAt};
 ghost use Rattle.demands.specs.Rows.{Together};
 ghost use Rattle.demands.specs.Sequence.{Run};

@@ -7,9 +7,9 @@ use lib.Dec.{T, leb, eqb}
 use lib.Ieee.{Float, nan, inf, fin, binary32, odd, ofFields, ofBits, toBits, neg, isNan, nanBits, fits, lt}
 use lib.Ieee.Scale.{finite}
 use lib.Ieee.Bits.{nanBits-is, ofBits-toBits}
-use borrow.Author.Tests.{ne-eqb, eqb-false, not-true}
-use Rattle.floats.specs.Value.{value, isFinite, negated, far, farWith, least, most}
-use Rattle.floats.proofs.Words.{negated-size, least-has, most-has}
+use borrow.Author.Tests.{eq-eqb, ne-eqb, eqb-true, eqb-false, not-true}
+use Rattle.floats.specs.Value.{value, isFinite, negative, negated, far, farWith, least, most}
+use Rattle.floats.proofs.Words.{on-case, negated-size, least-has, most-has}
 
 -- ---- a word is finite unless its exponent is all ones
 odd-finite : (d : ℕ) (s : Bool) (q k l : ℕ) → finite (odd d s q k l) ≡ true
@@ -34,6 +34,13 @@ finite-word w = finite-fields (leb 2147483648 w) (w % 2147483648 / 8388608) (w %
 pub finite-exponent : (w : ℕ) → isFinite w ≡ true → w % 2147483648 / 8388608 < 255
 finite-exponent w h = let n : w % 2147483648 / 8388608 ≡ 255 → ⊥ = eqb-false _ _ (not-true _ (sym (finite-word w) ∙ h)) in omega arith
 
+-- 1 more in the exponent carries into the sign bit where it was all ones
+pub raised-sign : (w : ℕ) → not (negative (w % 2147483648 + 8388608)) ≡ isFinite w
+unfolding negative
+raised-sign w = sym (finite-word w ∙ ap not (on-case (eqb (w % 2147483648 / 8388608) 255)
+    (λ e. let h : w % 2147483648 / 8388608 ≡ 255 = eqb-true _ _ e in e ∙ sym (eq-eqb ((w % 2147483648 + 8388608) / 2147483648 % 2) 1 (omega arith)))
+    (λ e. let h : w % 2147483648 / 8388608 ≡ 255 → ⊥ = eqb-false _ _ e in e ∙ sym (ne-eqb ((w % 2147483648 + 8388608) / 2147483648 % 2) 1 (λ (k : (w % 2147483648 + 8388608) / 2147483648 % 2 ≡ 1). omega arith)))))
+
 -- a link, which is a number below 2 ^ 16, is a finite word
 pub small-finite : (w : ℕ) → w < 65536 → isFinite w ≡ true
 small-finite w l = finite-word w ∙ ap not (ne-eqb (w % 2147483648 / 8388608) 255 (λ (e : w % 2147483648 / 8388608 ≡ 255). omega arith))
@@ -54,6 +61,10 @@ unfolding isFinite
 finite-word-of x f h = ap finite (ofBits-toBits binary32 x f) ∙ h
 
 -- ---- what is made of finite words is finite
+pub finite-of : (x : Float) (w : ℕ) → x ≡ value w → isFinite w ≡ true → finite x ≡ true
+unfolding isFinite
+finite-of x w e h = ap finite e ∙ h
+
 pub finite-cond : (b : Bool) (x y : Float) → finite x ≡ true → finite y ≡ true → finite (cond b x y) ≡ true
 finite-cond true x y p q = p
 finite-cond false x y p q = q

@@ -134,27 +134,27 @@ alike-has P {v} {w} (zeros s d e) f g = subst (λ (n : ℕ). P n w) (sym d) (sub
 
 module _ (v w : ℕ) (lv : v < 0x1_0000_0000) (lw : w < 0x1_0000_0000) (hv : isFinite v ≡ true) (hw : isFinite w ≡ true) where
   -- either, without a branch: two choices by a comparison of floats, joined bit by bit
-  joined : (op : ℕ → ℕ → ℕ) → ((n : ℕ) → op n n ≡ n) → (x y : ℕ) → toBits binary32 (value x) ≡ x → toBits binary32 (value y) ≡ y
-      → (equal v w ≡ true → op y x ≡ cond (before v w) x y)
-      → op (toBits binary32 (cond (lt (value v) (value w)) (value x) (value y))) (toBits binary32 (cond (lt (value w) (value v)) (value y) (value x))) ≡ cond (before v w) x y
-  joined op self x y px py tie = go (compared v w lv lw hv hw)
+  joined : (op : ℕ → ℕ → ℕ) → ((n : ℕ) → op n n ≡ n) → (x y : ℕ) → toBits binary32 (value x) ≡ x → toBits binary32 (value y) ≡ y → (equal v w ≡ true → op y x ≡ cond (before v w) x y)
+      → {p q : ℕ} → p ≡ toBits binary32 (cond (lt (value v) (value w)) (value x) (value y)) → q ≡ toBits binary32 (cond (lt (value w) (value v)) (value y) (value x)) → op p q ≡ cond (before v w) x y
+  joined op self x y px py tie p q = ap₂ op p q ∙ go (compared v w lv lw hv hw)
     where
       go : Compared v w → op (toBits binary32 (cond (lt (value v) (value w)) (value x) (value y))) (toBits binary32 (cond (lt (value w) (value v)) (value y) (value x))) ≡ cond (before v w) x y
       go (less p q b) = rw (p, q, b) (ap₂ op px px ∙ self x)
       go (more p q b) = rw (p, q, b) (ap₂ op py py ∙ self y)
       go (alike p q e) = rw (p, q) (ap₂ op py px ∙ tie e)
 
-  pub least-joined : bitOr (toBits binary32 (cond (lt (value v) (value w)) (value v) (value w))) (toBits binary32 (cond (lt (value w) (value v)) (value w) (value v))) ≡ least v w
-  unfolding least
-  least-joined = joined bitOr or-self v w (word-value v lv hv) (word-value w lw hw) (λ e. alike-has (λ m n. bitOr n m ≡ least m n) (equal-means v w lv lw hv hw e)
-      (λ n. or-self n ∙ sym (cond-one (before n n) n))
-      (λ s. elim s [ true ↦ sym (least-zeros true) | false ↦ sym (least-zeros false) ]))
+  module _ {x y : Float} (ex : x ≡ value v) (ey : y ≡ value w) {p q : ℕ} where
+    pub least-joined : p ≡ toBits binary32 (cond (lt x y) x y) → q ≡ toBits binary32 (cond (lt y x) y x) → bitOr p q ≡ least v w
+    unfolding least
+    least-joined = rw (ex, ey) (joined bitOr or-self v w (word-value v lv hv) (word-value w lw hw) (λ e. alike-has (λ m n. bitOr n m ≡ least m n) (equal-means v w lv lw hv hw e)
+        (λ n. or-self n ∙ sym (cond-one (before n n) n))
+        (λ s. elim s [ true ↦ sym (least-zeros true) | false ↦ sym (least-zeros false) ])))
 
-  pub most-joined : bitAnd (toBits binary32 (cond (lt (value v) (value w)) (value w) (value v))) (toBits binary32 (cond (lt (value w) (value v)) (value v) (value w))) ≡ most v w
-  unfolding most
-  most-joined = joined bitAnd and-self w v (word-value w lw hw) (word-value v lv hv) (λ e. alike-has (λ m n. bitAnd m n ≡ most m n) (equal-means v w lv lw hv hw e)
-      (λ n. and-self n ∙ sym (cond-one (before n n) n))
-      (λ s. elim s [ true ↦ sym (most-zeros true) | false ↦ sym (most-zeros false) ]))
+    pub most-joined : p ≡ toBits binary32 (cond (lt x y) y x) → q ≡ toBits binary32 (cond (lt y x) x y) → bitAnd p q ≡ most v w
+    unfolding most
+    most-joined = rw (ex, ey) (joined bitAnd and-self w v (word-value w lw hw) (word-value v lv hv) (λ e. alike-has (λ m n. bitAnd m n ≡ most m n) (equal-means v w lv lw hv hw e)
+        (λ n. and-self n ∙ sym (cond-one (before n n) n))
+        (λ s. elim s [ true ↦ sym (most-zeros true) | false ↦ sym (most-zeros false) ])))
 
   ordered : lt (value (cond (before v w) w v)) (value (cond (before v w) v w)) ≡ false
   ordered = go (compared v w lv lw hv hw)

@@ -1,9 +1,10 @@
 -- The laws of signs, which carry every theorem on the sign of a grid; they hold of every number. Assumes nothing.
 use mathlib.Core.Path.{_≡_, refl, _∙_, ap}
 use mathlib.Core.Bool.{Bool, true, false, not, _&&_, _||_, cond}
-use Prim.Native.Nat.{ℕ, _+_, _-_, _/_, _%_}
+use Prim.Native.Nat.{ℕ, zero, suc, _+_, _-_, _/_, _%_, _<_}
 use native.Mathlib.Omega.{arith}
 use lib.Dec.{eqb}
+use lib.Bits.{bitOr, or-shr, or-mod}
 use lib.Ieee.{lt}
 use borrow.Author.Tests.{eq-eqb, ne-eqb, eqb-true, eqb-false}
 use Rattle.floats.specs.Value.{value, negative, negated, far, farWith, before, least, most}
@@ -46,3 +47,19 @@ negative-least v w = both v w .0
 
 pub negative-most : (v w : ℕ) → negative (most v w) ≡ (negative v && negative w)
 negative-most v w = both v w .1
+
+-- bits joined: negative where either is
+pub negative-or : (v w : ℕ) → negative (bitOr v w) ≡ (negative v || negative w)
+unfolding negative
+negative-or v w =
+    ap (λ (n : ℕ). eqb (n % 2) 1) (or-shr v w 31) ∙ ap (λ (n : ℕ). eqb n 1) (or-mod (v / 0x8000_0000) (w / 0x8000_0000) 1)
+    ∙ go (v / 0x8000_0000 % 2) (w / 0x8000_0000 % 2) (omega arith) (omega arith)
+  where
+    go : (a b : ℕ) → a < 2 → b < 2 → eqb (bitOr a b) 1 ≡ (eqb a 1 || eqb b 1)
+    go zero zero h l = refl
+    go zero (suc zero) h l = refl
+    go (suc zero) zero h l = refl
+    go (suc zero) (suc zero) h l = refl
+    go zero (suc (suc b)) h l = absurd (omega arith)
+    go (suc zero) (suc (suc b)) h l = absurd (omega arith)
+    go (suc (suc a)) b h l = absurd (omega arith)

@@ -1,6 +1,6 @@
 // A 32-bit word as a value of a grid: the bits of an IEEE 754 binary32. A value in lent memory is a word, and is read as a float only where numbers are compared.
 ghost use mathlib.Core.Path.{_≡_};
-ghost use mathlib.Core.Bool.{true, cond};
+ghost use mathlib.Core.Bool.{true, not, cond};
 ghost use lib.Ieee.{binary32, toBits};
 ghost use lib.Ieee.Scale.{finite};
 ghost use Rattle.floats.specs.Value.{value, isFinite, negative, negated, farWith, equal, least, most};
@@ -19,6 +19,14 @@ pub fn finite_value(x: f32) -> bool
 {
     let infinity = f32::from_bits(0x7f80_0000);
     x < infinity && -infinity < x
+}
+
+// The word without its sign, with 1 added to the exponent: this carries into the sign bit exactly if the exponent is all ones. So the sign of many raised words joined bit
+// by bit tells whether all of the words are finite, and a loop over words vectorises.
+pub fn raised(w: u32) -> u32
+    ensures { λ r. ⌜ not (negative r) ≡ isFinite w ⌝ }
+{
+    w % 0x8000_0000 + 0x0080_0000
 }
 
 pub fn float_of(w: u32) -> f32
@@ -71,6 +79,15 @@ fn chosen(first: bool, x: f32, y: f32) -> f32
     if first { x } else { y }
 }
 
+// The choice falls on floats and not on their words, so that with a comparison of the two it is one instruction.
+fn chosen_word(first: bool, x: f32, y: f32) -> u32
+    requires { ⌜ finite x ≡ true ⌝ }
+    requires { ⌜ finite y ≡ true ⌝ }
+    ensures { λ r. ⌜ r ≡ toBits binary32 (cond first x y) ⌝ }
+{
+    word_of(chosen(first, x, y))
+}
+
 // The two choices differ only where the words are the two zeros, and then joining their bits gives -0. There is no branch, so a loop over words vectorises.
 pub fn least_word(v: u32, w: u32) -> u32
     requires { ⌜ isFinite v ≡ true ⌝ }
@@ -79,7 +96,7 @@ pub fn least_word(v: u32, w: u32) -> u32
 {
     let x = float_of(v);
     let y = float_of(w);
-    word_of(chosen(x < y, x, y)) | word_of(chosen(y < x, y, x))
+    chosen_word(x < y, x, y) | chosen_word(y < x, y, x)
 }
 
 // As least_word; the common bits of the two zeros are +0.
@@ -90,7 +107,7 @@ pub fn most_word(v: u32, w: u32) -> u32
 {
     let x = float_of(v);
     let y = float_of(w);
-    word_of(chosen(x < y, y, x)) & word_of(chosen(y < x, x, y))
+    chosen_word(x < y, y, x) & chosen_word(y < x, x, y)
 }
 
 // The test of a cut, each case with its bounds.

@@ -7,7 +7,6 @@ pub mod Whole
 pub mod SignFill
 pub mod CombinedSign
 pub mod CombinedEnd
-pub mod Subtract
 pub mod Cells
 pub mod Reach
 pub mod Proper

@@ -11,7 +11,7 @@ use Rattle.nodes.specs.State.{St, wide, linked, Live, Fork, Free, Held, Stacked
 use Rattle.nodes.specs.Change.{inCell, next, attachS}
 use Rattle.nodes.specs.Walk.{below, readyS}
 use Rattle.means.specs.Level.{Equal}
-use Rattle.means.proofs.Levels.{wide-cell, tag-of, fork-live, kept-live, kept-fork}
+use Rattle.means.proofs.Levels.{wide-cell, tag-of, fork-live, kept-live, kept-fork, kept-held}
 use Rattle.means.proofs.Put.{at1-here, at1-else, at2-here, at2-else, at2-next, in-cell, in-else}
 
 pub ready-sound : {n : ℕ} {s : St} → Sound n s → 0 < s .count → readyS n s ≡ true
@@ -127,17 +127,7 @@ module _ {n : ℕ} {s : St} (sd : Sound n s) (x k u : ℕ) (a : Bool) (hx : x < 
       go : Place (h .x) (h .k) → Held n r d
       go (slot p q) = absurd (false≢true (sym off ∙ sym (ap₂ (s .kid) p q) ∙ h .on))
       go (cell e) = absurd (fork-old (h .x) (h .fork) e)
-      go (apart e q) =
-          record {
-            x = h .x;
-            k = h .k;
-            says = tag-else d ne ∙ h .says;
-            node = h .node;
-            slot = h .slot;
-            fork = fork-on (h .x) (h .fork);
-            on = sym (q .kid) ∙ h .on;
-            links = sym (q .slot) ∙ h .links;
-          }
+      go (apart e q) = kept-held h (tag-else d ne) (fork-on (h .x)) q
 
   cells : (d : ℕ) → d < n → Free r d ⊎ Held n r d
   cells d h = go (ℕ-discrete d c)

@@ -52,8 +52,8 @@ bare-is (suc l) s y w =
     ∙ sym (every-as isHidden (span (suc l)) (treeAt (suc l) s y) (λ j. not (s .val y j) && not (s .kid y j))
     (λ j h. ap (λ (i : ℕ). isHidden (slotAt (treeAt l s) s y i)) (mod-eq-of-lt h) ∙ hidden-slot (treeAt l s) s y j))
 
--- then nothing is below the node
-pub bare-kids : (n : ℕ) (s : St) (l y : ℕ) → At n s l y → bareS (below l) s y ≡ true → Fork s y → (j : ℕ) → j < 64 → s .kid y j ≡ false
+-- then nothing is below the node; below a leaf there is nothing anyway
+pub bare-kids : (n : ℕ) (s : St) (l y : ℕ) → At n s l y → (0 < l → bareS (below l) s y ≡ true) → Fork s y → (j : ℕ) → j < 64 → s .kid y j ≡ false
 unfolding bareS
 bare-kids n s zero y h e f j q = absurd (leaf-ends n s y h f)
-bare-kids n s (suc l) y h e f j q = not-true (s .kid y j) (every-elim (λ j. not (s .kid y j)) 64 (and-both (noneS (s .val) y) (noneS (s .kid) y) e .1) j q)
+bare-kids n s (suc l) y h e f j q = not-true (s .kid y j) (every-elim (λ j. not (s .kid y j)) 64 (and-both (noneS (s .val) y) (noneS (s .kid) y) (e (omega arith)) .1) j q)

@@ -3,35 +3,35 @@ use mathlib.Core.Path.{_≡_, refl, sym, ap, _∙_, subst, fun-ext}
 use mathlib.Core.Bool.{true, false, not}
 use mathlib.Core.List.{[], _∷_}
 use mathlib.Core.Logic.{_≢_, inr}
-use Prim.Native.Nat.{ℕ, zero, suc, _+_, _<_, _≤_}
+use Prim.Native.Nat.{ℕ, zero, suc, _+_, _%_, _<_, _≤_}
 use native.Mathlib.Omega.{arith}
 use native.Mathlib.Nat.{mod-eq-of-lt}
 use borrow.Author.Tests.{lt-ltb, not-true}
 use Rattle.floats.specs.Value.{isFinite, far}
 use Rattle.floats.proofs.Words.{on-case}
-use Rattle.floats.proofs.Finite.{finite-far}
+use Rattle.floats.proofs.Finite.{finite-far, small-finite}
 use Rattle.bitset.proofs.Every.{and-both}
 use Rattle.grid.specs.Node.{branch, isHidden, SlotOf, changed, every, sum}
 use Rattle.grid.specs.Whole.{cells, cellsS, reach, isEmpty}
 use Rattle.grid.proofs.Places.{every-at, changed-at}
-use Rattle.nodes.specs.State.{St, Fork, Sound, flat, tree}
-use Rattle.nodes.specs.Change.{next, attachS}
-use Rattle.nodes.specs.Steps.{slotS}
+use Rattle.nodes.specs.State.{St, Sound, flat, tree}
+use Rattle.nodes.specs.Change.{next, attachS, claimS}
 use Rattle.nodes.specs.Each.{eachS}
 use Rattle.nodes.specs.Walk.{branching, below}
-use Rattle.trees.specs.Copy.{sameS, copyAt, copyM}
+use Rattle.trees.specs.Copy.{layS, branchAt, branchM, copyM}
 use Rattle.means.specs.Level.{span, treeAt, filled, At, In, Kept, Turned}
 use Rattle.means.proofs.Levels.{leaf-ends, at-link, at-down, at-finite, at-leaf-finite}
-use Rattle.means.proofs.Slots.{slot-flat, tree-round, tree-slot, tree-branch}
+use Rattle.means.proofs.Slots.{flat-same, slot-flat, tree-round, tree-slot, tree-branch}
 use Rattle.means.proofs.Sums.{sum-front}
-use Rattle.means.proofs.Turned.{into, Apart, apart-kept, apart-at, apart-tree, apart-still, tops-apart}
-use Rattle.means.proofs.Put.{set-turned}
+use Rattle.means.proofs.Turned.{then, idle, into, Apart, apart-kept, apart-at, apart-tree, apart-still, tops-apart}
+use Rattle.means.proofs.Frame.{in-own}
+use Rattle.means.proofs.Lay.{lay-turned, lay-fresh}
 use Rattle.means.proofs.Attach.{ready-sound}
-use Rattle.means.proofs.Grow.{grow-at, grow-here, grow-tree, grow-turned, grow-then}
+use Rattle.means.proofs.Grow.{span-new, grow-at, grow-here, grow-tree, grow-turned, grow-then}
 use Rattle.means.proofs.Each.{each-with}
 use Rattle.means.proofs.Bare.{hidden-slot}
 use Rattle.means.proofs.Wipe.{hidden-bare}
-use Rattle.means.proofs.Count.{flat-none}
+use Rattle.means.proofs.Count.{flat-none, reach-leaf}
 
 -- a hidden slot is no branch
 hidden-kid : (l : ℕ) (s : St) (y k : ℕ) → k < span (suc l) → isHidden (treeAt (suc l) s y k) ≡ true → s .kid y k ≡ false
@@ -39,60 +39,6 @@ hidden-kid l s y k q e =
     not-true (s .kid y k) (and-both (not (s .val y k)) (not (s .kid y k)) (sym (ap isHidden (tree-slot l s y k q) ∙ hidden-slot (treeAt l s) s y k) ∙ e) .1)
 
 module _ (n : ℕ) where
-  -- ---- the copy of node x to node y, both of level l, that starts in the state s₀
-  module _ (l x y : ℕ) (s₀ : St) where
-    abbrev cellsAt : ℕ → ℕ
-    cellsAt i = cellsS (below l) (treeAt l s₀ x i)
-
-    -- before slot k: node x is what it was at the start and shares no node with y; the slots of y from k on are hidden; the cells of the slots before k have been taken
-    record Going (k : ℕ) (s : St) : Type 0 where
-      from : At n s l x
-      source : treeAt l s x ≡ treeAt l s₀ x
-      apart : Apart l s x y
-      bare : (j : ℕ) → k ≤ j → j < span l → isHidden (treeAt l s y j) ≡ true
-      taken : s .count + sum k cellsAt ≡ s₀ .count
-
-    abbrev Gone : ℕ → St → St → Type 0
-    Gone k s r = Turned n l y s r (changed (span l) k (λ _. treeAt l s₀ x k) (treeAt l s y)) × Going (suc k) r
-
-    -- one slot: where slot k of y becomes what slot k of x is, for the cells of that slot
-    module _ (k : ℕ) (q : k < span l) (s : St) (sd : Sound n s) (g : Going k s) where
-      on : (r : St) (t : SlotOf (below l)) → t ≡ treeAt l s x k → Turned n l y s r (changed (span l) k (λ _. t) (treeAt l s y)) → r .count + cellsS (below l) t ≡ s .count → Gone k s r
-      unfolding sum
-      on r t e a c = (
-        into a (ap (λ u. changed (span l) k (λ _. u) (treeAt l s y)) e'),
-        record {
-          from = apart-at sd a x (g .from) (g .apart);
-          source = sym (apart-tree sd a x (g .from) (g .apart)) ∙ g .source;
-          apart = apart-still sd a x (g .from) (g .apart);
-          bare = λ j p h. ap (λ u. isHidden (u j)) (a .grid) ∙ changed-at (λ u. isHidden u ≡ true) (span l) k (λ _. t) (treeAt l s y) j
-              (λ m. absurd (past j p (sym (mod-eq-of-lt h) ∙ m))) (λ _. g .bare j (omega arith) h);
-          taken = omega (arith, c, ap (cellsS (below l)) e', g .taken);
-        },
-      )
-        where
-          e' : t ≡ treeAt l s₀ x k
-          e' = e ∙ ap (λ u. u k) (g .source)
-
-          past : (j : ℕ) → suc k ≤ j → j ≡ k → ⊥
-          past j p m = omega arith
-
-      -- it is no branch
-      flat-on : At n s l y → (Fork s y → s .kid y k ≡ false) → isFinite (s .slot x k) ≡ true → flat s x k ≡ treeAt l s x k → Gone k s (sameS x y k s)
-      unfolding slotS
-      flat-on h off fw e =
-          on (sameS x y k s) (flat s x k) e (set-turned sd l y k (s .slot x k) false (s .val x k) h (λ f. (off f, refl)) fw) (omega (arith, flat-none s (below l) x k))
-
-    -- all slots
-    all : (step : ℕ → St → St) → ((k : ℕ) → k < span l → (s : St) → Sound n s → At n s l y → Going k s → Gone k s (step k s))
-        → Sound n s₀ → At n s₀ l x → At n s₀ l y → Apart l s₀ x y → every isHidden (span l) (treeAt l s₀ y) ≡ true
-        → Turned n l y s₀ (eachS step (span l) s₀) (treeAt l s₀ x) × (eachS step (span l) s₀ .count + reach (branching l) (below l) (treeAt l s₀ x) ≡ s₀ .count)
-    unfolding reach sum
-    all step ok sd hx hy apart bare =
-        let p = each-with l y step (λ k _. treeAt l s₀ x k) Going ok s₀ sd hy
-        (record { from = hx; source = refl; apart = apart; bare = λ j _ h. every-at isHidden (span l) (treeAt l s₀ y) j bare h; taken = omega arith }) in
-        (into (p .0) (sym (fun-ext (tree-round (branching l) (below l) s₀ x))), p .1 .taken)
-
   -- ---- by level
   abbrev Copied : ℕ → Type 0
   Copied l =
@@ -101,29 +47,79 @@ module _ (n : ℕ) where
       → Turned n l y s (copyM (branching l) (below l) n x y s) (treeAt l s x)
       × (copyM (branching l) (below l) n x y s .count + reach (branching l) (below l) (treeAt l s x) ≡ s .count)
 
+  -- a leaf has no branches
   leaf : Copied zero
-  unfolding copyM tree
-  leaf s x y sd hx hy apart bare enough = all zero x y s (sameS x y)
-      (λ k q r rs at g. flat-on zero x y s k q r rs g at (λ f. absurd (leaf-ends n r y at f)) (at-leaf-finite rs x k (g .from) q) (ap (flat r x) (sym (mod-eq-of-lt q))))
-      sd hx hy apart bare
+  unfolding branchM layS tree
+  leaf s x y sd hx hy apart bare enough =
+      (lay-turned sd zero x y hy (λ f. absurd (leaf-ends n s y hy f)) (λ k q. at-leaf-finite sd x k hx q), omega (arith, reach-leaf s (branching zero) x))
 
+  -- ---- the copy of node x to node y, both of level suc l, that starts in the state s₀
   module _ (l : ℕ) (ih : Copied l) (x y : ℕ) (s₀ : St) (enough : reach (branching (suc l)) (below (suc l)) (treeAt (suc l) s₀ x) ≤ s₀ .count) where
     abbrev go : ℕ → ℕ → St → St
     go = copyM (branching l) (below l) n
 
-    -- one slot
-    module _ (k : ℕ) (q : k < span (suc l)) (s : St) (sd : Sound n s) (h : At n s (suc l) y) (g : Going (suc l) x y s₀ k s) where
-      off : s .kid y k ≡ false
-      off = hidden-kid l s y k q (g .bare k (omega arith) q)
+    abbrev cellsAt : ℕ → ℕ
+    cellsAt i = cellsS (below (suc l)) (treeAt (suc l) s₀ x i)
 
-      -- a branch, for which the cells suffice: it is copied to the cell that is added
+    -- before slot k: node x is what it was at the start and shares no node with y; the slots of y from k on are those of x, but for branches; the cells of the slots before
+    -- k have been taken
+    record Going (k : ℕ) (s : St) : Type 0 where
+      from : At n s (suc l) x
+      source : treeAt (suc l) s x ≡ treeAt (suc l) s₀ x
+      apart : Apart (suc l) s x y
+      ahead : (j : ℕ) → k ≤ j → j < span (suc l) → treeAt (suc l) s y j ≡ flat s x j
+      taken : s .count + sum k cellsAt ≡ s₀ .count
+
+    abbrev Gone : ℕ → St → St → Type 0
+    Gone k s r = Turned n (suc l) y s r (changed (span (suc l)) k (λ _. treeAt (suc l) s₀ x k) (treeAt (suc l) s y)) × Going (suc k) r
+
+    -- one slot: where slot k of y becomes what slot k of x is, for the cells of that slot
+    module _ (k : ℕ) (q : k < span (suc l)) (s : St) (sd : Sound n s) (h : At n s (suc l) y) (g : Going k s) where
+      on : (r : St) (t : SlotOf (below (suc l))) → t ≡ treeAt (suc l) s x k → Turned n (suc l) y s r (changed (span (suc l)) k (λ _. t) (treeAt (suc l) s y))
+          → r .count + cellsS (below (suc l)) t ≡ s .count → Gone k s r
+      unfolding sum
+      on r t e a c = (
+        into a (ap (λ u. changed (span (suc l)) k (λ _. u) (treeAt (suc l) s y)) e'),
+        record {
+          from = apart-at sd a x (g .from) (g .apart);
+          source = sym (apart-tree sd a x (g .from) (g .apart)) ∙ g .source;
+          apart = apart-still sd a x (g .from) (g .apart);
+          ahead = λ j p h. ap (λ u. u j) (a .grid) ∙ changed-at (λ u. u ≡ flat r x j) (span (suc l)) k (λ _. t) (treeAt (suc l) s y) j
+              (λ m. absurd (past j p (sym (mod-eq-of-lt h) ∙ m))) (λ _. g .ahead j (omega arith) h ∙ flat-same (apart-kept sd a x (g .from) (g .apart) .slots j));
+          taken = omega (arith, c, ap (cellsS (below (suc l))) e', g .taken);
+        },
+      )
+        where
+          e' : t ≡ treeAt (suc l) s₀ x k
+          e' = e ∙ ap (λ u. u k) (g .source)
+
+          past : (j : ℕ) → suc k ≤ j → j ≡ k → ⊥
+          past j p m = omega arith
+
+      -- it is no branch: nothing is left to do
+      module _ (e : s .kid x k ≡ false) where
+        is-flat : treeAt (suc l) s x k ≡ flat s x k
+        is-flat = tree-slot l s x k q ∙ slot-flat (treeAt l s) s x k e
+
+        flat-on : Gone k s s
+        flat-on = on s (treeAt (suc l) s x k) refl (idle (suc l) y k s (λ _. treeAt (suc l) s x k) sd h (is-flat ∙ sym (g .ahead k (omega arith) q)))
+            (omega (arith, ap (cellsS (below (suc l))) is-flat, flat-none s (below (suc l)) x k))
+
+      -- a branch, for which the cells suffice: it is copied to the cell that is claimed, as it would be to one that is attached
       module _ (e : s .kid x k ≡ true) where
         abbrev r : St
         r = attachS y k far false s
 
+        -- slot k of y has none
+        off : s .kid y k ≡ false
+        unfolding cells
+        off = on-case (s .kid y k)
+            (λ t. absurd (omega (arith, ap (cellsS (below (suc l))) (sym (tree-branch l s y k q t) ∙ g .ahead k (omega arith) q), flat-none s (below (suc l)) x k)))
+            (λ t. t)
+
         fits : cellsS (below (suc l)) (treeAt (suc l) s x k) ≤ s .count
         unfolding reach sum
-        fits = omega (arith, enough, g .taken, sum-front (suc k) (span (suc l)) (cellsAt (suc l) x y s₀) q, ap (λ u. cellsS (below (suc l)) (u k)) (g .source))
+        fits = omega (arith, enough, g .taken, sum-front (suc k) (span (suc l)) cellsAt q, ap (λ u. cellsS (below (suc l)) (u k)) (g .source))
 
         some : 0 < s .count
         unfolding cells
@@ -148,35 +144,69 @@ module _ (n : ℕ) where
         unfolding cells reach
         cells-is = ap (cellsS (below (suc l))) is
 
+        new : (r .slot y k ≡ next s) × (r .kid y k ≡ true) × (r .val y k ≡ false)
+        new = grow-here sd l y k far false h q off some finite-far
+
+        between : Apart l r (8 + r .slot x k) (8 + next s)
+        between z i j = apart-still sd a x (g .from) (g .apart) z (inr (k, q, on-x, i)) (inr (k, q, new .1, subst (λ (d : ℕ). In l r (8 + d) z) (sym (new .0)) j))
+
         down : Turned n l (8 + next s) r (go (8 + r .slot x k) (8 + next s) r) (treeAt l r (8 + r .slot x k))
             × (go (8 + r .slot x k) (8 + next s) r .count + reach (branching l) (below l) (treeAt l r (8 + r .slot x k)) ≡ r .count)
         unfolding attachS
         down = ih r (8 + r .slot x k) (8 + next s) (a .sound) (at-down (a .sound) l x k at-x q on-x) (grow-at sd l y k far false h q off some finite-far) between
             (ap (every isHidden (span l)) (grow-tree sd l y k far false h q off some finite-far) ∙ hidden-bare l far) (omega (arith, fits, cells-is))
-          where
-            new : (r .slot y k ≡ next s) × (r .kid y k ≡ true) × (r .val y k ≡ false)
-            new = grow-here sd l y k far false h q off some finite-far
 
-            between : Apart l r (8 + r .slot x k) (8 + next s)
-            between z i j = apart-still sd a x (g .from) (g .apart) z (inr (k, q, on-x, i)) (inr (k, q, new .1, subst (λ (d : ℕ). In l r (8 + d) z) (sym (new .0)) j))
+        claimed : go (8 + r .slot x k) (8 + next s) (claimS y k s) ≡ go (8 + r .slot x k) (8 + next s) r
+        claimed =
+            ap (branchM (branching l) (below l) n (8 + r .slot x k) (8 + next s))
+            (subst (λ (m : ℕ). layS m (8 + r .slot x k) (8 + next s) (claimS y k s) ≡ layS m (8 + r .slot x k) (8 + next s) r) (sym (span-new sd l y k far false h q off some finite-far))
+            (lay-fresh s (8 + r .slot x k) y k far false (λ d. between (8 + next s) (subst (λ (z : ℕ). In l r z (8 + next s)) (sym d) (in-own l r (8 + next s))) (in-own l r (8 + next s)))))
 
-        branch-on : Gone (suc l) x y s₀ k s (copyAt go n x y k s)
+        branch-on : Gone k s (branchAt go n x y k s)
         unfolding attachS cells reach
-        branch-on = subst (Gone (suc l) x y s₀ k s)
-            (sym (rw (e, lt-ltb (s .slot x k) n (at-link sd l x k (g .from) q e .inside), ready-sound sd some) (ap (λ (d : ℕ). go (8 + d) (8 + next s) r) (still .slots k .slot))))
-            (on (suc l) x y s₀ k q s sd g (go (8 + r .slot x k) (8 + next s) r) (branch (treeAt l r (8 + r .slot x k))) is
+        branch-on = subst (Gone k s)
+            (sym (rw (e, lt-ltb (s .slot x k) n (at-link sd l x k (g .from) q e .inside), ready-sound sd some)
+            (ap (λ (d : ℕ). go (8 + d) (8 + next s) (claimS y k s)) (still .slots k .slot) ∙ claimed)))
+            (on (go (8 + r .slot x k) (8 + next s) r) (branch (treeAt l r (8 + r .slot x k))) is
             (grow-then sd l y k far false h q off some finite-far (down .0)) (omega (arith, down .1, some)))
 
-      at-slot : Gone (suc l) x y s₀ k s (copyAt go n x y k s)
-      at-slot = on-case (s .kid x k) branch-on
-          (λ e. subst (Gone (suc l) x y s₀ k s) (sym (rw e refl))
-          (flat-on (suc l) x y s₀ k q s sd g h (λ _. off) (at-finite sd l x k (g .from) q e) (sym (tree-slot l s x k q ∙ slot-flat (treeAt l s) s x k e))))
+      at-slot : Gone k s (branchAt go n x y k s)
+      at-slot = on-case (s .kid x k) branch-on (λ e. subst (Gone k s) (sym (rw e refl)) (flat-on e))
+
+    -- all slots: the node as one piece, then its branches
+    module _ (sd : Sound n s₀) (hx : At n s₀ (suc l) x) (hy : At n s₀ (suc l) y) (apart : Apart (suc l) s₀ x y) (bare : every isHidden (span (suc l)) (treeAt (suc l) s₀ y) ≡ true) where
+      abbrev r₀ : St
+      r₀ = layS (span (suc l)) x y s₀
+
+      -- a link is a finite word too
+      finite : (k : ℕ) → k < span (suc l) → isFinite (s₀ .slot x k) ≡ true
+      finite k q = on-case (s₀ .kid x k) (λ e. small-finite (s₀ .slot x k) (omega (arith, at-link sd l x k hx q e .inside, sd .room))) (at-finite sd l x k hx q)
+
+      a₀ : Turned n (suc l) y s₀ r₀ (λ k. flat s₀ x (k % span (suc l)))
+      a₀ = lay-turned sd (suc l) x y hy (λ _ k q. hidden-kid l s₀ y k q (every-at isHidden (span (suc l)) (treeAt (suc l) s₀ y) k bare q)) finite
+
+      start : Going 0 r₀
+      unfolding sum layS
+      start =
+          record {
+            from = apart-at sd a₀ x hx apart;
+            source = sym (apart-tree sd a₀ x hx apart);
+            apart = apart-still sd a₀ x hx apart;
+            ahead = λ j _ q. ap (λ u. u j) (a₀ .grid) ∙ ap (flat s₀ x) (mod-eq-of-lt q) ∙ flat-same (apart-kept sd a₀ x hx apart .slots j);
+            taken = omega arith;
+          }
+
+      all : Turned n (suc l) y s₀ (eachS (branchAt go n x y) (span (suc l)) r₀) (treeAt (suc l) s₀ x)
+          × (eachS (branchAt go n x y) (span (suc l)) r₀ .count + reach (branching (suc l)) (below (suc l)) (treeAt (suc l) s₀ x) ≡ s₀ .count)
+      unfolding reach
+      all =
+          let p = each-with (suc l) y (branchAt go n x y) (λ k _. treeAt (suc l) s₀ x k) Going at-slot r₀ (a₀ .sound) (a₀ .at) start in
+          (into (then a₀ (p .0)) (sym (fun-ext (tree-round (branching (suc l)) (below (suc l)) s₀ x))), p .1 .taken)
 
   copied : (l : ℕ) → Copied l
-  unfolding copyM
+  unfolding branchM
   copied zero = leaf
-  copied (suc l) = λ s x y sd hx hy apart bare enough. all (suc l) x y s (copyAt (copyM (branching l) (below l) n) n x y)
-      (λ k q r rs at g. at-slot l (copied l) x y s enough k q r rs at g) sd hx hy apart bare
+  copied (suc l) = λ s x y sd hx hy apart bare enough. all l (copied l) x y s enough sd hx hy apart bare
 
 -- node x to node y
 module _ {n : ℕ} {s : St} (sd : Sound n s) where

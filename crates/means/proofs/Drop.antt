@@ -1,4 +1,4 @@
--- A node below a branch has changed: where it is bare now, the branch is released, and the slot is hidden with +far; and the tests that the code makes are passed.
+-- A node below a branch has changed: where it is bare now, or is a leaf that is dropped, the branch is released, and the slot is hidden with +far; and the tests that the code makes are passed.
 -- Assumes nothing.
 use mathlib.Core.Path.{_≡_, refl, sym, ap, _∙_, subst}
 use mathlib.Core.Bool.{true, false}
@@ -43,9 +43,9 @@ module _ {n : ℕ} {s : St} (sd : Sound n s) (l x k : ℕ) (h : At n s (suc l) x
       bare-is l r (8 + r .slot x k) (sym (at-wide n r l (8 + r .slot x k) at) ∙ wide-cell (8 + r .slot x k) (omega arith))
       ∙ ap (every isHidden (span l)) (ap (λ (c : ℕ). treeAt l r (8 + c)) (sym (o .slots k .slot)) ∙ a .grid)
 
-  module _ (bare : every isHidden (span l) g ≡ true) where
+  module _ (bare : 0 < l → every isHidden (span l) g ≡ true) where
     none : Fork r (8 + r .slot x k) → (j : ℕ) → j < 64 → r .kid (8 + r .slot x k) j ≡ false
-    none = bare-kids n r l (8 + r .slot x k) at (test ∙ bare)
+    none = bare-kids n r l (8 + r .slot x k) at (λ z. test ∙ bare z)
 
     room : r .count < n
     room = prune-room (a .sound) l x k (b .at) q on none
@@ -60,5 +60,5 @@ module _ {n : ℕ} {s : St} (sd : Sound n s) (l x k : ℕ) (h : At n s (suc l) x
   pub shut-turned : Turned n (suc l) x s (shutM (below l) n x k r) (changed (span (suc l)) k (λ _. kept (branching l) (below l) g) (treeAt (suc l) s x))
   unfolding kept
   shut-turned = on-case (every isHidden (span l) g)
-      (λ z. rw (lt-ltb (r .slot x k) n inside, test ∙ z, lt-ltb (r .count) n (room z), z) (drop-turned z))
+      (λ z. rw (lt-ltb (r .slot x k) n inside, test ∙ z, lt-ltb (r .count) n (room (λ _. z)), z) (drop-turned (λ _. z)))
       (λ z. rw (lt-ltb (r .slot x k) n inside, test ∙ z, z) b)

@@ -81,7 +81,7 @@ module _ {n : ℕ} {s : St} (sd : Sound n s) (l x k u : ℕ) (a : Bool) (h : At 
       go (suc zero) h w = (omega arith, omega (arith, hc), (omega (arith, t), omega (arith, t, h .0, wide-top x (h .0))))
       go (suc (suc l)) h w = absurd (omega (arith, h .1))
 
-  span-new : span l ≡ 64
+  pub span-new : span l ≡ 64
   span-new = sym (at-wide n r l (8 + c) grow-at) ∙ wide-cell (8 + c) (omega arith)
 
   pub grow-tree : treeAt l r (8 + c) ≡ filled l u a

@@ -1,5 +1,5 @@
 -- On a sound pool: the nodes of each level and what is below their branches. Assumes nothing.
-use mathlib.Core.Path.{_≡_, refl, ap, _∙_, subst}
+use mathlib.Core.Path.{_≡_, refl, sym, ap, _∙_, subst}
 use mathlib.Core.Bool.{true, false}
 use mathlib.Core.Logic.{inl, inr}
 use Prim.Native.Nat.{ℕ, zero, suc, _+_, _-_, _*_, _<_, _≤_}
@@ -10,9 +10,9 @@ use borrow.Author.Tests.{lt-ltb, le-ltb}
 use Rattle.floats.specs.Value.{isFinite}
 use Rattle.grid.specs.Node.{size}
 use Rattle.grid.proofs.Places.{cond-at}
-use Rattle.nodes.specs.State.{St, wide, linked, Live, Fork, Link, Sound}
+use Rattle.nodes.specs.State.{St, wide, linked, Live, Fork, Held, Link, Sound}
 use Rattle.nodes.specs.Walk.{branching}
-use Rattle.means.specs.Level.{span, At}
+use Rattle.means.specs.Level.{span, At, Equal}
 
 pub wide-top : (x : ℕ) → x < 8 → wide x ≡ 512
 wide-top x h = rw (lt-ltb x 8 h) refl
@@ -73,6 +73,20 @@ pub kept-at : (n l x : ℕ) (s r : St) → (8 ≤ x → s .tag (x - 8) ≡ r .ta
 kept-at n zero x s r e h = (h .0, h .1, subst (λ (u : ℕ). 69632 ≤ u) (e (h .0)) (h .2))
 kept-at n (suc zero) x s r e h = (h .0, h .1, subst (λ (u : ℕ). (65536 ≤ u) × (u < 69632)) (e (h .0)) (h .2))
 kept-at n (suc (suc l)) x s r e h = h
+
+-- a cell is held as it was where its use mark, its slot, and whether the slot's node has branches, are as they were
+pub kept-held : {n : ℕ} {s r : St} {c : ℕ} (h : Held n s c) → r .tag c ≡ s .tag c → (Fork s (h .x) → Fork r (h .x)) → Equal s r (h .x) (h .k) → Held n r c
+kept-held h t f e =
+    record {
+      x = h .x;
+      k = h .k;
+      says = t ∙ h .says;
+      node = h .node;
+      slot = h .slot;
+      fork = f (h .fork);
+      on = sym (e .kid) ∙ h .on;
+      links = sym (e .slot) ∙ h .links;
+    }
 
 -- ---- below a branch
 module _ {n : ℕ} {s : St} (sd : Sound n s) where

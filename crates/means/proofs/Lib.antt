@@ -11,6 +11,7 @@ pub mod Frame
 pub mod Grow
 pub mod Insert
 pub mod Joined
+pub mod Lay
 pub mod Levels
 pub mod Lookup
 pub mod Memory

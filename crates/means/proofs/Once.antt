@@ -8,7 +8,7 @@ use lib.Dec.{ltb}
 use borrow.Author.Tests.{lt-ltb, le-ltb}
 use Rattle.floats.specs.Value.{isFinite}
 use Rattle.grid.specs.Node.{size}
-use Rattle.nodes.specs.State.{St, wide, linked, Used, Middle, Live, Fork, Free, Held, Stacked, Link, Sound}
+use Rattle.nodes.specs.State.{St, wide, linked, Used, Live, Fork, Free, Held, Link, Sound}
 use Rattle.means.specs.Level.{At}
 use Rattle.means.specs.Once.{Path, top, middle, leaf, end, branchAt, Leads, FreeOnce, ReachedOnce, Written}
 use Rattle.means.specs.Owner.{above}

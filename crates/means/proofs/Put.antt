@@ -14,7 +14,7 @@ use Rattle.nodes.specs.Change.{at1, at2, inCell, putS, hideS}
 use Rattle.nodes.specs.Steps.{slotS}
 use Rattle.trees.specs.Slot.{wordS}
 use Rattle.means.specs.Level.{span, treeAt, At, In, Equal, Same, Turned}
-use Rattle.means.proofs.Levels.{at-fork, kept-at}
+use Rattle.means.proofs.Levels.{at-fork, kept-at, kept-held}
 use Rattle.means.proofs.Slots.{flat-same, slot-flat}
 use Rattle.means.proofs.Frame.{in-own, slot-tree, slot-in, own-apart}
 use Rattle.means.proofs.Unspoilt.{unspoilt-slot}
@@ -92,17 +92,7 @@ module _ {n : ℕ} {s : St} (sd : Sound n s) (l x k w : ℕ) (b a : Bool) (h : A
   held : (c : ℕ) (d : Held n s c) → Place (d .x) (d .k) → Held n r c
   unfolding slotS
   held c d (slot p q) = absurd (false≢true (sym (was (d .x) (d .k) p q (d .fork)) ∙ d .on))
-  held c d (apart e) =
-      record {
-        x = d .x;
-        k = d .k;
-        says = d .says;
-        node = d .node;
-        slot = d .slot;
-        fork = d .fork;
-        on = sym (e .kid) ∙ d .on;
-        links = sym (e .slot) ∙ d .links;
-      }
+  held c d (apart e) = kept-held d refl (λ f. f) e
 
   cell : (c : ℕ) → Free s c ⊎ Held n s c → Free r c ⊎ Held n r c
   unfolding slotS

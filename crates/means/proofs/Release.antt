@@ -10,7 +10,7 @@ use Rattle.floats.proofs.Finite.{finite-far}
 use Rattle.nodes.specs.State.{St, wide, linked, Live, Fork, Free, Held, Stacked, Link, Sound}
 use Rattle.nodes.specs.Change.{releaseS}
 use Rattle.means.specs.Level.{Equal}
-use Rattle.means.proofs.Levels.{wide-cell, wide-most, tag-of, kept-live, kept-fork, fork-live}
+use Rattle.means.proofs.Levels.{wide-cell, wide-most, tag-of, kept-live, kept-fork, kept-held, fork-live}
 use Rattle.means.proofs.Put.{at1-here, at1-else, at2-here, at2-else, at2-next}
 use Rattle.means.proofs.Pigeon.{pigeon}
 
@@ -122,17 +122,7 @@ module _ {n : ℕ} {s : St} (sd : Sound n s) (x k : ℕ) (hx : x < 8 + n) (hk : 
 
       go : Place (h .x) (h .k) → Held n r d
       go (slot p q) = absurd (ne (sym (h .links) ∙ ap₂ (s .slot) p q))
-      go (apart a q) =
-          record {
-            x = h .x;
-            k = h .k;
-            says = tag-else d ne ∙ h .says;
-            node = h .node;
-            slot = h .slot;
-            fork = fork-on (h .x) up (h .fork);
-            on = sym (q .kid) ∙ h .on;
-            links = sym (q .slot) ∙ h .links;
-          }
+      go (apart a q) = kept-held h (tag-else d ne) (fork-on (h .x) up) q
 
   cells : (d : ℕ) → d < n → Free r d ⊎ Held n r d
   cells d h = go (ℕ-discrete d c)

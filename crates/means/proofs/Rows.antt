@@ -11,7 +11,7 @@ use Rattle.grid.proofs.Geometry.{square, cube, digits-in}
 use Rattle.grid.proofs.SignFill.{carried-at}
 use Rattle.nodes.specs.State.{St, Sound}
 use Rattle.nodes.specs.Walk.{branching, below}
-use Rattle.trees.specs.Signs.{behindS, startS, writeS, carryS, rowZ, rowY, rowsM}
+use Rattle.signs.specs.Signs.{behindS, startS, writeS, carryS, rowZ, rowY, rowsM}
 use Rattle.means.specs.Level.{levels, span, treeAt, At, Turned}
 use Rattle.means.proofs.Levels.{span-pos}
 use Rattle.means.proofs.Turned.{stay, then, into}

@@ -8,7 +8,7 @@ use Rattle.grid.specs.SignFill.{filledRows, fillSigns, fillSignsS}
 use Rattle.nodes.specs.State.{St, Sound}
 use Rattle.nodes.specs.Each.{eachS}
 use Rattle.nodes.specs.Walk.{branching, below}
-use Rattle.trees.specs.Signs.{downS, fillSignsM}
+use Rattle.signs.specs.Signs.{downS, fillSignsM}
 use Rattle.means.specs.Level.{levels, span, treeAt, At, Turned}
 use Rattle.means.proofs.Levels.{at-down}
 use Rattle.means.proofs.Turned.{then, into, idle, ruled, lift}

@@ -1,11 +1,11 @@
 -- One slot of a node of a sound pool: the signs that are read of it are the meaning's, and writing its sign changes it alone. Assumes nothing.
-use mathlib.Core.Path.{_≡_, refl, sym, ap, _∙_, subst}
+use mathlib.Core.Path.{_≡_, refl, sym, ap, _∙_}
 use mathlib.Core.Bool.{Bool, true, false, not, cond, false≢true}
 use mathlib.Core.List.{[]}
 use Prim.Native.Nat.{ℕ, zero, suc, _+_, _-_, _<_, _≤_}
 use native.Mathlib.Omega.{arith}
 use borrow.Author.Tests.{lt-ltb, not-true}
-use Rattle.floats.specs.Value.{isFinite, negative, farWith}
+use Rattle.floats.specs.Value.{negative, farWith}
 use Rattle.floats.proofs.Words.{on-case}
 use Rattle.floats.proofs.Finite.{finite-farWith}
 use Rattle.bitset.proofs.Every.{and-both}
@@ -14,7 +14,7 @@ use Rattle.grid.specs.SignFill.{firstSign, firstSignS, lastSign, replaced, star
 use Rattle.nodes.specs.State.{St, Fork, Sound, flat}
 use Rattle.nodes.specs.Walk.{below}
 use Rattle.trees.specs.Slot.{childS, hiddenS}
-use Rattle.trees.specs.Signs.{signS, behindS, startS, writeS}
+use Rattle.signs.specs.Signs.{signS, behindS, startS, writeS}
 use Rattle.means.specs.Level.{span, treeAt, At, Turned}
 use Rattle.means.proofs.Levels.{span-pos, wide-cell, at-wide, leaf-ends, at-link, at-down}
 use Rattle.means.proofs.Turned.{idle, ruled}

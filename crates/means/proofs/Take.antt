@@ -1,5 +1,5 @@
--- The branch of a slot of node y taken over by the same slot of node x, which is none: the pool stays sound, the slot of x becomes that branch, the slot of y is
--- hidden with +far, and nothing else changes. Assumes nothing.
+-- The branch of a slot of node y taken over by the same slot of node x, which is none: the pool stays sound, the slot of x becomes that branch, or the branch flipped, the
+-- slot of y is hidden with +far, and nothing else changes. Assumes nothing.
 use mathlib.Core.Path.{_≡_, refl, sym, ap, ap₂, _∙_, subst}
 use mathlib.Core.Bool.{true, false, false≢true}
 use mathlib.Core.Logic.{_≢_, _⊎_, inl, inr, ⊎-elim}
@@ -8,17 +8,23 @@ use native.Mathlib.Decide.{ℕ-discrete}
 use native.Mathlib.Omega.{arith}
 use Rattle.floats.specs.Value.{isFinite, far}
 use Rattle.floats.proofs.Finite.{finite-far}
-use Rattle.grid.specs.Node.{branch, changed}
+use Rattle.grid.specs.Node.{branch, Node, changed}
+use Rattle.grid.specs.Whole.{flip}
+use Rattle.grid.specs.Combine.{Operation, union, subtract, intersect, taken}
 use Rattle.nodes.specs.State.{St, wide, linked, Live, Fork, Free, Held, Stacked, Link, Sound, slotAt}
 use Rattle.nodes.specs.Change.{at2}
-use Rattle.trees.specs.Combine.{takeChildS}
-use Rattle.means.specs.Level.{span, treeAt, At, In, Equal, Same}
+use Rattle.nodes.specs.Walk.{branching, below}
+use Rattle.trees.specs.Combine.{takeChildS, takeM}
+use Rattle.trees.specs.declared.turn.Work.the-variants.{Flip}
+use Rattle.means.specs.Level.{levels, span, treeAt, At, In, Equal, Same, Turned}
 use Rattle.means.specs.Joined.{Beyond, Joined}
-use Rattle.means.proofs.Levels.{wide-top, wide-most, at-wide, at-inside, at-fork, at-link, kept-at}
-use Rattle.means.proofs.Slots.{slot-branch}
+use Rattle.means.proofs.Levels.{wide-top, wide-most, at-wide, at-inside, at-fork, at-link, at-down, kept-at, kept-held}
+use Rattle.means.proofs.Slots.{slot-branch, changed-twice}
 use Rattle.means.proofs.Frame.{in-own, tree-frame, in-frame, slot-tree, slot-in, level-apart}
 use Rattle.means.proofs.Put.{at1-here, at1-else, at2-here, at2-else, at2-next}
-use Rattle.means.proofs.Joined.{past-slot}
+use Rattle.means.proofs.Turned.{into, lift}
+use Rattle.means.proofs.Turn.{turn-right}
+use Rattle.means.proofs.Joined.{past-slot, joined-then, joined-into, joined-first}
 use Rattle.means.proofs.Unspoilt.{unspoilt-take}
 
 -- ---- two slots changed: what is read elsewhere
@@ -143,17 +149,7 @@ module _ {n : ℕ} {s : St} (sd : Sound n s) (l x y k : ℕ) (hx : At n s (suc l
       go : Place (h .x) (h .k) → Held n r d
       go (to p e) = absurd (false≢true (sym ex ∙ sym (ap₂ (s .kid) p e) ∙ h .on))
       go (from p e) = absurd (ne (sym (h .links) ∙ ap₂ (s .slot) p e))
-      go (apart a e) =
-          record {
-            x = h .x;
-            k = h .k;
-            says = tag-else d ne ∙ h .says;
-            node = h .node;
-            slot = h .slot;
-            fork = fork-on (h .x) (h .fork);
-            on = sym (e .kid) ∙ h .on;
-            links = sym (e .slot) ∙ h .links;
-          }
+      go (apart a e) = kept-held h (tag-else d ne) (fork-on (h .x)) e
 
   cells : (d : ℕ) → d < n → Free r d ⊎ Held n r d
   cells d h = go (ℕ-discrete d c)
@@ -223,7 +219,7 @@ module _ {n : ℕ} {s : St} (sd : Sound n s) (l x y k : ℕ) (hx : At n s (suc l
       (slot-in l s r x k (next-same x) (λ j p _. below-same x j hx p) z i)
   within z o (inr i) = ⊎-elim (λ i'. o .out (inr i')) (λ p. false≢true (sym (here-y .1) ∙ p .0)) (slot-in l s r y k (next-same y) (λ j p _. below-same y j hy p) z i)
 
-  pub take-joined : Joined n (suc l) x y (suc k) s r (changed (span (suc l)) k (λ _. branch (treeAt l s (8 + s .slot y k))) (treeAt (suc l) s x))
+  take-joined : Joined n (suc l) x y (suc k) s r (changed (span (suc l)) k (λ _. branch (treeAt l s (8 + s .slot y k))) (treeAt (suc l) s x))
   unfolding takeChildS
   take-joined =
       record {
@@ -243,3 +239,20 @@ module _ {n : ℕ} {s : St} (sd : Sound n s) (l x y k : ℕ) (hx : At n s (suc l
         marks = refl;
         unspoilt = unspoilt-take x y k s (omega (arith, own .inside, sd .room));
       }
+
+  -- ---- what is done to the branch once it is taken
+  turned-there : {t : St} {g : Node (levels l)} → Turned n l (8 + c) r t g → Joined n (suc l) x y (suc k) s t (changed (span (suc l)) k (λ _. branch g) (treeAt (suc l) s x))
+  turned-there {t} {g} a = joined-into
+      (joined-then take-joined (omega arith) (joined-first (suc k) take-sound (take-joined .at-x) (take-joined .at-y) differ
+      (lift take-sound l x k (take-joined .at-x) q (here-x .1) (subst (λ (d : ℕ). Turned n l (8 + d) r t g) (sym (here-x .0)) a))))
+      (ap (changed (span (suc l)) k (λ _. branch g)) (take-joined .grid) ∙ changed-twice (span (suc l)) k (λ _. branch g) (λ _. branch (treeAt l s (8 + c))) (treeAt (suc l) s x))
+
+  at-c : At n r l (8 + c)
+  at-c = subst (λ (d : ℕ). At n r l (8 + d)) (here-x .0) (at-down take-sound l x k (take-joined .at-x) q (here-x .1))
+
+  pub taken-joined : (o : Operation) → Joined n (suc l) x y (suc k) s (takeM (branching l) (below l) o n x y k s)
+      (changed (span (suc l)) k (λ _. branch (taken o (levels l) (treeAt l s (8 + s .slot y k)))) (treeAt (suc l) s x))
+  unfolding flip
+  taken-joined union = take-joined
+  taken-joined subtract = turned-there (into (turn-right Flip l (8 + c) take-sound at-c) (ap (flip (levels l)) (sym (tree-frame l s r (8 + c) (below-same y k hy q ey)))))
+  taken-joined intersect = take-joined

@@ -99,11 +99,6 @@ module _ (n : ℕ) (w : Work) where
   done zero = leaf
   done (suc l) = λ s x. up l (done l) x s
 
--- of a seat, prune and cut are the meaning's as they stand here
+-- of a seat, prune, cut and flip are the meaning's as they stand here
 pub turn-right : {n : ℕ} {s : St} (w : Work) (l x : ℕ) → Sound n s → At n s l x → Turned n l x s (turnM (branching l) (below l) w n x s) (λ i. turnedS w (below l) (treeAt l s x i))
 turn-right {n} {s} w l x = done n w l s x
-
--- and a seat flipped
-pub flip-seat : {n : ℕ} {s : St} (t : ℕ) → Sound n s → t < 8 → Turned n 2 t s (turnM 3 (2 ∷ 2 ∷ []) Flip n t s) (flip (3 ∷ 2 ∷ 2 ∷ []) (treeAt 2 s t))
-unfolding flip
-flip-seat t sd h = turn-right Flip 2 t sd (h, refl)

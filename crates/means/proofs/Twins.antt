@@ -14,7 +14,7 @@ use Rattle.nodes.specs.State.{St, Sound, flat, slotAt, tree}
 use Rattle.nodes.specs.Layout.{slotsLength, masksLength, bookLength}
 use Rattle.means.specs.Level.{levels, span, treeAt, At}
 use Rattle.means.specs.Mem.{Mem, lensOf, sizeOf, cellsOf, fits, poolOf, SoundMem, seatOf, stateOf}
-use Rattle.means.specs.Twins.{SlotTwin, Twin, Twins, TwinMem}
+use Rattle.means.specs.Twins.{SlotTwin, Twin, TwinMem}
 use Rattle.means.proofs.Levels.{span-pos, at-link, at-down}
 use Rattle.means.proofs.Slots.{flat-twin, slot-twin, slot-branch, slot-flat, tree-leaf, tree-slot}
 use Rattle.means.proofs.Memory.{Fitting, fitting, seat-is, count-is}

@@ -7,21 +7,12 @@ use Prim.Native.Nat.{ℕ, _+_, _<_, _≤_}
 use Rattle.floats.specs.Value.{far}
 use Rattle.grid.specs.Node.{Node}
 use Rattle.grid.specs.Whole.{clear}
-use Rattle.grid.specs.Combine.{Operation, union, subtract, intersect}
+use Rattle.grid.specs.Combine.{Operation}
 use Rattle.nodes.specs.State.{St, Live, Sound}
 use Rattle.nodes.specs.Wipe.{wipeM}
 use Rattle.trees.specs.Combine.{combineM}
-use Rattle.trees.specs.Turn.{turnM}
-use Rattle.trees.specs.declared.turn.Work.the-variants.{Flip}
-use Rattle.trees.specs.declared.plan.Join.{Join}
-use Rattle.trees.specs.declared.plan.Join.the-variants.{Union, Intersect}
 use Rattle.means.specs.Level.{levels, span, treeAt, At, In, Kept}
 use Rattle.means.specs.Unspoilt.{Unspoilt}
-
--- the meaning's operation
-abbrev pub joinO : Join → Operation
-joinO Union = union
-joinO Intersect = intersect
 
 -- node z counts, and is in the tree of neither x nor y
 pub record Beyond (n l : ℕ) (s : St) (x y z : ℕ) : Type 0 where
@@ -51,8 +42,6 @@ pub record Combined (n a b : ℕ) (s r : St) (g : Node (levels 2)) : Type 0 wher
   pub marks : r .mark ≡ s .mark
   pub unspoilt : Unspoilt s r
 
--- what is done to seats a and b: b is joined into a, after a flip of b where it is subtracted, and then cleared
+-- what is done to seats a and b: b is joined into a, and then cleared
 unfoldable pub combinedS : Operation → ℕ → ℕ → ℕ → St → St
-combinedS union n a b s = wipeM 3 (2 ∷ 2 ∷ []) n far false b (combineM 3 (2 ∷ 2 ∷ []) Union n a b s)
-combinedS subtract n a b s = wipeM 3 (2 ∷ 2 ∷ []) n far false b (combineM 3 (2 ∷ 2 ∷ []) Intersect n a b (turnM 3 (2 ∷ 2 ∷ []) Flip n b s))
-combinedS intersect n a b s = wipeM 3 (2 ∷ 2 ∷ []) n far false b (combineM 3 (2 ∷ 2 ∷ []) Intersect n a b s)
+combinedS o n a b s = wipeM 3 (2 ∷ 2 ∷ []) n far false b (combineM 3 (2 ∷ 2 ∷ []) o n a b s)

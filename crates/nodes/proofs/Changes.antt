@@ -17,7 +17,7 @@ use Rattle.bitset.proofs.Sets.{bit-set}
 use Rattle.floats.specs.Value.{far}
 use Rattle.nodes.specs.State.{St}
 use Rattle.nodes.specs.Layout.{st, wordOf, kidBit, valBit}
-use Rattle.nodes.specs.Change.{at2, inCell, putS, attachS, releaseS, next}
+use Rattle.nodes.specs.Change.{at2, inCell, putS, attachS, claimS, releaseS, next}
 use Rattle.nodes.specs.Steps.{slotS, cellS, takeS, giveS, roomS}
 use Rattle.nodes.specs.Range.{In, Cells}
 use Rattle.nodes.proofs.Places.{spread, spread-same, spread-one, spread-cell, word-lt}
@@ -27,7 +27,7 @@ pub st-ext : (s r : St) → ((x k : ℕ) → s .slot x k ≡ r .slot x k) → ((
     → ((i : ℕ) → s .stack i ≡ r .stack i) → ((c : ℕ) → s .tag c ≡ r .tag c) → ((t : ℕ) → s .mark t ≡ r .mark t) → s ≡ r
 st-ext s r a b c d e f g = λ i. record { slot = λ x k. a x k i; kid = λ x k. b x k i; val = λ x k. c x k i; count = d i; stack = λ j. e j i; tag = λ j. f j i; mark = λ j. g j i }
 
-same-test : (a b c d : ℕ) → (a ≡ b → c ≡ d) → (c ≡ d → a ≡ b) → eqb a b ≡ eqb c d
+pub same-test : (a b c d : ℕ) → (a ≡ b → c ≡ d) → (c ≡ d → a ≡ b) → eqb a b ≡ eqb c d
 same-test a b c d f g = elim (is-or-not c d) [
   | inl e ↦ eq-eqb a b (g e) ∙ sym (eq-eqb c d e)
   | inr e ↦ ne-eqb a b (λ q. e (f q)) ∙ sym (ne-eqb c d e)
@@ -169,6 +169,10 @@ pub attach-by : (x k w : ℕ) (a : Bool) (s : St) {s₁ s₂ s₃ : St} {r : ℕ
 unfolding takeS cellS slotS attachS
 attach-by x k w a s {r = r} e p q u =
     u ∙ ap (slotS x k r true false) (q ∙ ap (cellS r w a) p) ∙ ap (λ (c : ℕ). slotS x k c true false (cellS c w a (takeS x k s))) e
+
+pub claim-by : (x k : ℕ) (s : St) {s₁ s₂ : St} {r : ℕ} → r ≡ next s → s₁ ≡ takeS x k s → s₂ ≡ slotS x k r true false s₁ → s₂ ≡ claimS x k s
+unfolding takeS slotS claimS
+claim-by x k s {r = r} e p q = q ∙ ap (slotS x k r true false) p ∙ ap (λ (c : ℕ). slotS x k c true false (takeS x k s)) e
 
 pub release-by : (n x k : ℕ) (s : St) {s₁ s₂ : St} {c f w : ℕ} → c ≡ s .slot x k → f ≡ s .count → c < n → f < n → w ≡ far → s₁ ≡ giveS c s → s₂ ≡ slotS x k w false false s₁
     → s₂ ≡ cond (roomS n x k s) (releaseS x k s) s

@@ -1,18 +1,18 @@
 -- An insert and a remove of a voxel whose walk ends in a leaf, by the slot at which it ends: on any state. Assumes nothing.
-use mathlib.Core.Path.{_≡_, refl, sym, ap, ap₂, _∙_, subst}
+use mathlib.Core.Path.{_≡_, refl, sym, ap, ap₂, _∙_}
 use mathlib.Core.Bool.{Bool, true, false, not, cond, _&&_}
 use mathlib.Core.List.{List, [], _∷_}
-use mathlib.Core.Logic.{inl, inr}
 use Prim.Native.Nat.{ℕ, zero, suc, _+_, _-_, _*_, _/_, _%_, _<_, _≤_, _^_}
 use native.Mathlib.Omega.{arith}
 use lib.ListN.{getD, length}
-use lib.Dec.{ltb, eqb, lit<}
-use borrow.Author.Tests.{eq-eqb, ne-eqb}
+use lib.Bits.{and-le-l}
+use lib.Dec.{ltb, eqb}
+use borrow.Author.Tests.{eq-eqb}
 use Rattle.bitset.specs.Set.{bitOf, every, weight, wordBit}
-use Rattle.bitset.proofs.Digits.{is-or-not}
 use Rattle.bitset.proofs.Every.{every-elim}
 use Rattle.bitset.proofs.Sets.{has-own}
-use Rattle.bitset.proofs.Words.{word-ext, zero-bit, weight-bit, weight-lt}
+use Rattle.bitset.proofs.Words.{ones}
+use Rattle.bitset.proofs.First.{less, less-bit}
 use Rattle.grid.specs.Geometry.{Point, slotOf}
 use Rattle.grid.specs.Node.{size}
 use Rattle.grid.proofs.Geometry.{slot-lt}
@@ -26,11 +26,10 @@ use Rattle.nodes.specs.Walk.{branching, below, insertM, viewS}
 use Rattle.nodes.proofs.Places.{wide-cell, word-cell}
 use Rattle.nodes.proofs.Seeks.{clash}
 use Rattle.nodes.proofs.States.{st-val}
+use Rattle.nodes.proofs.Changes.{same-test}
+use Rattle.nodes.proofs.Removes.{every-same, word-none}
 
--- ---- a word of the value mask that has another bit than k
-pub unlike : (a b : ℕ) → not (eqb a b) ≡ true → a ≡ b → ⊥
-unlike a b h e = clash (sym (ap not (eq-eqb a b e)) ∙ h)
-
+-- ---- a word of the value mask without the bit of slot k of node x: what is active there once that slot is hidden
 module _ (slots masks book : List ℕ) {n x k i : ℕ} (m : In n x k) (l : 8 ≤ x) (e : i ≡ wordOf x k) where
   low : k < 64
   low = omega (arith, m .slot, wide-cell x l)
@@ -43,35 +42,23 @@ module _ (slots masks book : List ℕ) {n x k i : ℕ} (m : In n x k) (l : 8 ≤
       let q : 64 * (64 + n + i / 64) + j ≡ valBit n x j = omega (arith, word-cell x j l, word-cell x k l, e, low) in
       has-own masks (64 + n + i / 64) j h ∙ ap (bitOf masks) q ∙ sym (st-val slots masks book (record { node = m .node; slot = omega (arith, wide-cell x l) }))
 
-  others : noneS (hideS x k (st n slots masks book) .val) x ≡ true → (j : ℕ) → j < 64 → (j ≡ k → ⊥) → wordBit w j ≡ false
+  left-on : (j : ℕ) → j < 64 → wordBit (less w i) j ≡ hideS x k (st n slots masks book) .val x j
   unfolding hideS
-  others h j lj ne = bit-of j lj ∙ off (st n slots masks book .val x j) (subst (λ (b : Bool). not (cond (eqb x x && b) false (st n slots masks book .val x j)) ≡ true) (ne-eqb j k ne) (every-elim _ 64 h j lj))
+  left-on j h =
+      less-bit w i j
+      ∙ ap₂ (λ (b t : Bool). b && not t) (bit-of j h) (same-test (j % 64) (i % 64) j k (λ o. omega (arith, word-cell x k l, e, low, o)) (λ o. omega (arith, word-cell x k l, e, low, o)))
+      ∙ rw (eq-eqb x x refl) (off (eqb j k) (st n slots masks book .val x j))
     where
-      off : (b : Bool) → not (cond (eqb x x && false) false b) ≡ true → b ≡ false
-      off b h = same (eqb x x) b h
-        where
-          same : (t b : Bool) → not (cond (t && false) false b) ≡ true → b ≡ false
-          same true true h = absurd (clash h)
-          same true false h = refl
-          same false true h = absurd (clash h)
-          same false false h = refl
+      off : (t b : Bool) → b && not t ≡ cond t false b
+      off true true = refl
+      off true false = refl
+      off false true = refl
+      off false false = refl
 
-  pub shared-is : w < 2 ^ 64 → (w ≡ 0 → ⊥) → (w ≡ weight i → ⊥) → noneS (hideS x k (st n slots masks book) .val) x ≡ false
-  shared-is f some more = go (noneS (hideS x k (st n slots masks book) .val) x) refl
-    where
-      go : (b : Bool) → noneS (hideS x k (st n slots masks book) .val) x ≡ b → noneS (hideS x k (st n slots masks book) .val) x ≡ false
-      go true h = absurd (by (wordBit w k) refl)
-        where
-          by : (b : Bool) → wordBit w k ≡ b → ⊥
-          by true q = more (word-ext w (weight i) f (weight-lt i) (λ r lr. elim (is-or-not r k) [
-            | inl p ↦ ap (wordBit w) p ∙ q ∙ sym (weight-bit i r ∙ eq-eqb (r % 64) (i % 64) (omega (arith, word-cell x k l, e, low)))
-            | inr p ↦ others h r lr p ∙ sym (weight-bit i r ∙ ne-eqb (r % 64) (i % 64) (λ z. p (omega (arith, word-cell x k l, e, low, z))))
-          ]))
-          by false q = some (word-ext w 0 f (lit< tt) (λ r lr. elim (is-or-not r k) [
-            | inl p ↦ ap (wordBit w) p ∙ q ∙ sym (zero-bit r)
-            | inr p ↦ others h r lr p ∙ sym (zero-bit r)
-          ]))
-      go false h = h
+  pub shared-is : {v : ℕ} → w < 2 ^ 64 → v ≡ less w i → not (eqb v 0) ≡ not (noneS (hideS x k (st n slots masks book) .val) x)
+  shared-is f q =
+      ap (λ (v : ℕ). not (eqb v 0)) q
+      ∙ ap not (word-none (less w i) (omega (arith, f, and-le-l w (ones - weight i))) ∙ every-same _ _ 64 (λ j h. ap not (left-on j h)))
 
 -- ---- one bit that is on
 some-on : (f : ℕ → Bool) (j : ℕ) → j < 64 → f j ≡ true → every (λ j. not (f j)) 64 ≡ false

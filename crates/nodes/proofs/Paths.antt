@@ -43,19 +43,11 @@ slot-of s e h = record { node = s .node; slot = omega (arith, s .slots) }
 pub size-is : (m r : ℕ) {l : ℕ} → l ≡ m → r ≡ size (branching m) → r ≡ size (branching l)
 size-is m r e h = h ∙ ap (λ (i : ℕ). size (branching i)) (sym e)
 
--- a leaf is a cell
-pub leaf-cell : {n l x : ℕ} → Stands n l x → l ≡ 0 → 8 ≤ x
-unfolding size
-leaf-cell {n} {l} {x} s e = elim (lt-or-le x 8) [
-  | inl h ↦ absurd (omega (arith, wide-top x h, s .slots, ap (λ (i : ℕ). size (branching i)) e))
-  | inr h ↦ h
-]
-
 pub top-stands : (n x : ℕ) → x < 8 → Stands n 2 x
 unfolding size
 top-stands n x h = record { known = omega arith; node = omega arith; slots = wide-top x h }
 
-low-size : (m : ℕ) → m ≤ 1 → 64 ≡ size (branching m)
+pub low-size : (m : ℕ) → m ≤ 1 → 64 ≡ size (branching m)
 unfolding size
 low-size zero h = refl
 low-size (suc zero) h = refl
@@ -63,6 +55,16 @@ low-size (suc (suc m)) h = absurd (none h)
   where
     none : suc (suc m) ≤ 1 → ⊥
     none h = omega arith
+
+-- a middle node or a leaf is a cell
+pub low-cell : {n l x : ℕ} → Stands n l x → l ≤ 1 → 8 ≤ x
+low-cell {n} {l} {x} s h = elim (lt-or-le x 8) [
+  | inl q ↦ absurd (omega (arith, wide-top x q, s .slots, low-size l h))
+  | inr q ↦ q
+]
+
+pub leaf-cell : {n l x : ℕ} → Stands n l x → l ≡ 0 → 8 ≤ x
+leaf-cell s e = low-cell s (omega arith)
 
 pub stands-below : {n l x : ℕ} → Stands n l x → (l ≡ 0 → ⊥) → (c : ℕ) → c < n → Stands n (l - 1) (8 + c)
 stands-below {n} {l} {x} s h c hc =

@@ -1,8 +1,8 @@
 -- From places in lent memory to slots of nodes: wordOf gives each slot of a pool a place of its own, so that what happens at places happens at slots. Assumes nothing.
-use mathlib.Core.Path.{_≡_, refl, sym, _∙_, subst}
+use mathlib.Core.Path.{_≡_, refl, sym, ap, _∙_, subst}
 use mathlib.Core.Logic.{inl, inr}
 use mathlib.Core.Bool.{Bool, true, false, cond, _&&_}
-use Prim.Native.Nat.{ℕ, _+_, _-_, _*_, _/_, _<_, _≤_}
+use Prim.Native.Nat.{ℕ, _+_, _-_, _*_, _/_, _%_, _<_, _≤_}
 use native.Mathlib.Omega.{arith}
 use lib.Dec.{ltb, eqb}
 use borrow.Author.Tests.{lt-ltb, le-ltb, eq-eqb, ne-eqb}
@@ -39,6 +39,19 @@ word-lt {n} {x} {k} i = elim (lt-or-le x 8) [
   | inr h ↦ omega (arith, i .node, i .slot, wide-cell x h, word-cell x k h)
 ]
 
+-- the words of a node are whole groups, of 64 words
+pub wide-groups : (x : ℕ) → 64 * (wide x / 64) ≡ wide x
+wide-groups x = elim (lt-or-le x 8) [
+  | inl h ↦ omega (arith, wide-top x h)
+  | inr h ↦ omega (arith, wide-cell x h)
+]
+
+pub word-from : (x k : ℕ) → wordOf x k ≡ 64 * (wordOf x 0 / 64) + k
+word-from x k = elim (lt-or-le x 8) [
+  | inl h ↦ omega (arith, word-top x 0 h, word-top x k h)
+  | inr h ↦ omega (arith, word-cell x 0 h, word-cell x k h)
+]
+
 -- the place of a slot can be reckoned, and lies below any end that is past the pool's words
 pub placed : {n x k : ℕ} → n < 65536 → In n x k → (m : ℕ) → slotsLength n ≤ m → Placed x k m
 placed {n} {x} {k} h i m l =
@@ -63,6 +76,9 @@ word-same x k y j hk hj e = elim (lt-or-le x 8) [
     both p q = (p, q)
 
 -- the words of cell c are those of group 64 + c, of 64 words
+pub cell-word : (c j : ℕ) → wordOf (8 + c) j ≡ 64 * (64 + c) + j
+cell-word c j = omega (arith, word-cell (8 + c) j (omega arith))
+
 pub word-group : (c y j : ℕ) → j < wide y → (wordOf y j / 64 ≡ 64 + c → y ≡ 8 + c) × (y ≡ 8 + c → wordOf y j / 64 ≡ 64 + c)
 word-group c y j h = elim (lt-or-le y 8) [
   | inl a ↦ (λ e. absurd (omega (arith, wide-top y a, word-top y j a)), λ e. omega arith)
@@ -155,3 +171,25 @@ module _ {A : Type 0} (n : ℕ) (d : A) where
       where
         narrow : (y j : ℕ) → In n y j → y ≡ 8 + c → (y ≡ 8 + c) × (j < 64)
         narrow y j i e = (e, omega (arith, i .slot, wide-cell y (omega arith)))
+
+    -- the 64 places of group j of node y, whose words are those from group h on, are given the values a
+    pub spread-group : (y h j : ℕ) (a : ℕ → A) → ((k : ℕ) → wordOf y k ≡ 64 * h + k) → In n y (64 * j + 63)
+        → ((i : ℕ) → i < slotsLength n → f' i ≡ cond (eqb (i / 64) (h + j)) (a (i % 64)) (f i)) → (z k : ℕ) → spread f' z k ≡ cond (eqb z y && eqb (k / 64) j) (a (k % 64)) (spread f z k)
+    spread-group y h j a w iy p = spread-by f' (λ z k. cond (eqb z y && eqb (k / 64) j) (a (k % 64)) (spread f z k))
+        (λ z k i. p (wordOf z k) (word-lt i) ∙ elim (pair-test z y (k / 64) j) [
+          | yes-is t e ↦
+              let q : wordOf z k ≡ 64 * h + k = subst (λ (v : ℕ). wordOf v k ≡ 64 * h + k) (sym (e .0)) (w k) in
+              let r : wordOf z k % 64 ≡ k % 64 = omega arith in
+              rw (t, eq-eqb (wordOf z k / 64) (h + j) (omega (arith, e .1))) (ap a r)
+          | no-is t e ↦ rw (t, ne-eqb (wordOf z k / 64) (h + j) (λ q. e (back z k i q))) (sym (spread-in f i))
+        ])
+        (λ z k o. elim (pair-test z y (k / 64) j) [
+          | yes-is t e ↦ absurd (o (subst (λ (v : ℕ). In n v k) (sym (e .0)) (record { node = iy .node; slot = omega (arith, iy .slot, e .1) })))
+          | no-is t e ↦ rw t (sym (spread-out f o))
+        ])
+      where
+        back : (z k : ℕ) → In n z k → wordOf z k / 64 ≡ h + j → (z ≡ y) × (k / 64 ≡ j)
+        back z k i q =
+            let v : wordOf z k ≡ wordOf y (64 * j + wordOf z k % 64) = omega (arith, w (64 * j + wordOf z k % 64)) in
+            let e = word-same z k y (64 * j + wordOf z k % 64) (i .slot) (omega (arith, iy .slot)) v in
+            (e .0, omega (arith, e .1))

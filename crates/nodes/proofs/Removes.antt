@@ -1,16 +1,16 @@
 -- A remove, by what the code does at each slot and on the way back. Assumes nothing.
 use mathlib.Core.Path.{_≡_, refl, sym, ap, ap₂, _∙_, subst}
-use mathlib.Core.Bool.{Bool, true, false, not, cond, _&&_, and-true}
+use mathlib.Core.Bool.{Bool, true, false, not, cond, _&&_}
 use mathlib.Core.List.{List, [], _∷_}
 use Prim.Native.Nat.{ℕ, zero, suc, _+_, _-_, _*_, _<_, _≤_, _^_}
-use native.Mathlib.Nat.{not-suc-le-zero}
 use native.Mathlib.Omega.{arith}
 use lib.ListN.{getD}
 use lib.Dec.{ltb, eqb, lit<}
-use borrow.Author.Tests.{lt-ltb, le-ltb, ltb-true}
-use Rattle.bitset.specs.Set.{bitOf, every}
-use Rattle.bitset.proofs.Every.{none}
+use borrow.Author.Tests.{lt-ltb, le-ltb, ltb-true, eq-eqb, eqb-true, not-true}
+use Rattle.bitset.specs.Set.{bitOf, every, wordBit}
+use Rattle.bitset.proofs.Every.{both-ways, every-intro, every-elim}
 use Rattle.bitset.proofs.Sets.{has-own}
+use Rattle.bitset.proofs.Words.{word-ext, zero-bit}
 use Rattle.floats.specs.Value.{isFinite}
 use Rattle.grid.specs.Geometry.{Point, slotOf}
 use types.Run.{OneOf, miss}
@@ -29,7 +29,7 @@ use Rattle.nodes.specs.declared.walk.Slot.{Slot}
 use Rattle.nodes.specs.declared.walk.Slot.the-variants.{Branch, Tile, Hidden}
 use Rattle.nodes.specs.declared.walk.Below.{Below}
 use Rattle.nodes.specs.declared.walk.Below.the-variants.{Go, Stop}
-use Rattle.nodes.proofs.Places.{cell-in, word-cell}
+use Rattle.nodes.proofs.Places.{cell-in, cell-word}
 use Rattle.nodes.proofs.States.{st-kid, st-val}
 use Rattle.nodes.proofs.Changes.{st-ext, val-kid, val-val}
 use Rattle.nodes.proofs.Paths.{one-less}
@@ -44,32 +44,30 @@ hide-step n mk mk' sl book {x} {k} m e r =
     st-ext _ _ (λ _ _. refl) (val-kid n (bitOf mk) (bitOf mk') false m q) (val-val n (bitOf mk) (bitOf mk') false m q) refl (λ _. refl) (λ _. refl) (λ _. refl)
 
 -- ---- a word is 0 if none of its bits is on
-pub word-off : (mk : List ℕ) (i : ℕ) → getD mk i 0 < 2 ^ 64 → eqb (getD mk i 0) 0 ≡ every (λ j. not (bitOf mk (64 * i + j))) 64
-unfolding every
-word-off mk i l =
-    let x : ℕ → Bool = λ j. bitOf mk (64 * i + j) in
-    sym (and-true (eqb (getD mk i 0) 0))
-    ∙ none x (λ _. 0) (getD mk i 0) 0 64 (omega arith) (omega arith) (λ q h. absurd (not-suc-le-zero h)) (λ r h.
-    let e : r ≡ 64 * 0 + r = omega arith in
-    has-own mk i r h ∙ ap x e ∙ sym (and-true (x (64 * 0 + r))) ∙ ap (λ (b : Bool). x (64 * 0 + r) && b) (sym (lt-ltb (64 * 0 + r) 64 (omega arith)))) (λ _. lit< tt) l
-
--- ---- bare
-every-same : (p q : ℕ → Bool) (n : ℕ) → ((k : ℕ) → k < n → p k ≡ q k) → every p n ≡ every q n
+pub every-same : (p q : ℕ → Bool) (n : ℕ) → ((k : ℕ) → k < n → p k ≡ q k) → every p n ≡ every q n
 unfolding every
 every-same p q zero h = refl
 every-same p q (suc n) h = ap₂ (λ (a b : Bool). a && b) (h n (omega arith)) (every-same p q n (λ k l. h k (omega arith)))
 
+pub word-none : (w : ℕ) → w < 2 ^ 64 → eqb w 0 ≡ every (λ j. not (wordBit w j)) 64
+word-none w l =
+    both-ways (eqb w 0) (every (λ j. not (wordBit w j)) 64)
+    (λ e. every-intro (λ j. not (wordBit w j)) 64 (λ j _. ap not (ap (λ (v : ℕ). wordBit v j) (eqb-true w 0 e) ∙ zero-bit j)))
+    (λ e. eq-eqb w 0 (word-ext w 0 l (lit< tt) (λ r m. not-true (wordBit w r) (every-elim (λ j. not (wordBit w j)) 64 e r m) ∙ sym (zero-bit r))))
+
+pub word-off : (mk : List ℕ) (i : ℕ) → getD mk i 0 < 2 ^ 64 → eqb (getD mk i 0) 0 ≡ every (λ j. not (bitOf mk (64 * i + j))) 64
+word-off mk i l = word-none (getD mk i 0) l ∙ every-same _ _ 64 (λ j h. ap not (has-own mk i j h))
+
+-- ---- bare
+
 -- the bits of cell c in either mask are those of one word
 module _ (sl mk book : List ℕ) {n c : ℕ} (h : c < n) where
-  cell-word : (j : ℕ) → wordOf (8 + c) j ≡ 64 * (64 + c) + j
-  cell-word j = omega (arith, word-cell (8 + c) j (omega arith))
-
   pub kid-word : {b : Bool} → b ≡ every (λ j. not (bitOf mk (64 * (64 + c) + j))) 64 → b ≡ noneS (st n sl mk book .kid) (8 + c)
-  kid-word e = e ∙ every-same _ _ 64 (λ j l. ap not (sym (st-kid sl mk book (cell-in h (8 + c) j refl l) ∙ ap (bitOf mk) (cell-word j))))
+  kid-word e = e ∙ every-same _ _ 64 (λ j l. ap not (sym (st-kid sl mk book (cell-in h (8 + c) j refl l) ∙ ap (bitOf mk) (cell-word c j))))
 
   pub val-word : {b : Bool} → b ≡ every (λ j. not (bitOf mk (64 * (128 + n + c) + j))) 64 → b ≡ noneS (st n sl mk book .val) (8 + c)
   val-word e = e ∙ every-same _ _ 64 (λ j l.
-      let p : 64 * (64 + n) + wordOf (8 + c) j ≡ 64 * (128 + n + c) + j = omega (arith, cell-word j) in
+      let p : 64 * (64 + n) + wordOf (8 + c) j ≡ 64 * (128 + n + c) + j = omega (arith, cell-word c j) in
       ap not (sym (st-val sl mk book (cell-in h (8 + c) j refl l) ∙ ap (bitOf mk) p)))
 
 module _ (s : St) (y l : ℕ) {a : Bool} (e : a ≡ noneS (s .val) y) where

@@ -42,6 +42,19 @@ attachS x k w a s =
       mark = s .mark;
     }
 
+-- the next free cell hangs below slot k of node x, and its slots are as they were: it is for whoever writes them all
+unfoldable pub claimS : ℕ → ℕ → St → St
+claimS x k s =
+    record {
+      slot = at2 (s .slot) x k (next s);
+      kid = at2 (s .kid) x k true;
+      val = at2 (s .val) x k false;
+      count = s .count - 1;
+      stack = s .stack;
+      tag = at1 (s .tag) (next s) (linked x k);
+      mark = s .mark;
+    }
+
 -- "released": the cell below slot k of node x is free again, and the slot is hidden with +far
 unfoldable pub releaseS : ℕ → ℕ → St → St
 releaseS x k s =

@@ -16,7 +16,7 @@ ghost use lib.ListN.{length, getD};
 ghost use lib.Dec.{eqb};
 ghost use Rattle.bitset.specs.Set.{bitOf};
 ghost use Rattle.nodes.specs.Layout.{Sized, st, wordOf, countPlace, stackPlace, tagPlace, slotsLength};
-ghost use Rattle.nodes.specs.Change.{putS, attachS, releaseS, markS, next};
+ghost use Rattle.nodes.specs.Change.{putS, attachS, claimS, releaseS, markS, next};
 ghost use Rattle.nodes.specs.Range.{In, Cells, Masked, Booked};
 ghost use Rattle.nodes.specs.Steps.{slotS, cellS, takeS, giveS, Spare, roomS};
 ghost use Rattle.nodes.specs.Walk.{readyS};
@@ -168,8 +168,26 @@ pub fn attach(
     c
 }
 
+// The same, but the cell's slots are as they were: it is for whoever writes them all.
+pub fn claim(
+    slots: &mut [u32],
+    masks: &mut [u64],
+    book: &mut [u32],
+    n: usize,
+    x: usize,
+    k: usize,
+) -> usize
+    requires { ⌜ (Sized n (now slots) (now masks) (now book)) × (In n x k) × (readyS n (st n (now slots) (now masks) (now book)) ≡ true) ⌝ }
+    ensures { λ r. ⌜ (r < n) × (st n (now (slots .exit)) (now (masks .exit)) (now (book .exit)) ≡ claimS x k (st n (now (slots .entry)) (now (masks .entry)) (now (book .entry))))
+        × (r ≡ next (st n (now (slots .entry)) (now (masks .entry)) (now (book .entry)))) ⌝ }
+{
+    let c = take(book, n, x, k);
+    set_slot(slots, masks, n, x, k, c as u32, true, false);
+    c
+}
+
 // Cell c goes on top of the stack of free cells.
-fn give(book: &mut [u32], n: usize, c: usize)
+pub fn give(book: &mut [u32], n: usize, c: usize)
     requires { ⌜ (Booked n (now book)) × (getD (now book) countPlace 0 < n) × (c < n) ⌝ }
     ensures { λ _. ⌜ ((slots masks : List ℕ) → st n slots masks (now (book .exit)) ≡ giveS c (st n slots masks (now (book .entry)))) ⌝ }
 {

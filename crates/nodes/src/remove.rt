@@ -8,7 +8,7 @@ use super::walk;
 use super::walk::Below;
 use super::walk::Slot;
 ghost use mathlib.Core.Path.{_≡_};
-ghost use mathlib.Core.Bool.{true, false, not};
+ghost use mathlib.Core.Bool.{not};
 ghost use mathlib.Core.List.{List};
 ghost use Prim.Native.Nat.{ℕ, _+_, _*_, _<_, _≤_};
 ghost use lib.ListN.{length};
@@ -39,13 +39,10 @@ pub fn hide(masks: &mut [u64], n: usize, x: usize, k: usize)
 // Another slot than the one at place i is active in its leaf, and stays so where that one is hidden.
 pub fn shared(masks: &[u64], n: usize, i: usize) -> bool
     requires { ⌜ (Masked n (now masks)) × (i < slotsLength n) ⌝ }
-    ensures { λ r. ⌜ ((slots book : List ℕ) (x k : ℕ) → In n x k → 8 ≤ x → i ≡ wordOf x k → r ≡ true → noneS (hideS x k (st n slots (now (masks .entry)) book) .val) x ≡ false) ⌝ }
+    ensures { λ r. ⌜ ((slots book : List ℕ) (x k : ℕ) → In n x k → 8 ≤ x → i ≡ wordOf x k → r ≡ not (noneS (hideS x k (st n slots (now (masks .entry)) book) .val) x)) ⌝ }
 {
     let w = masks[TOP_MASKS + n + i / 64];
-    if w == 0 {
-        return false;
-    }
-    w != bitset::value_mask(i)
+    bitset::without(w, i) != 0
 }
 
 // None of the 64 bits of word i is on.

@@ -1,13 +1,13 @@
 -- The refusals of a call on the whole pool: what the code found, number by number, is what the one list says. Assumes nothing.
 use mathlib.Core.Path.{_≡_, refl, sym, ap, ap₂, _∙_}
 use mathlib.Core.Bool.{Bool, true, false, not, _||_, cond}
-use mathlib.Core.List.{[], _∷_}
+use mathlib.Core.List.{[]}
 use mathlib.Core.Option.{Option, none, some}
 use Prim.Native.Nat.{ℕ, zero, suc, _<_, _≤_}
 use native.Mathlib.Omega.{arith}
 use lib.Dec.{leb, eqb}
 use borrow.Author.Tests.{le-leb, lt-leb, eq-eqb, ne-eqb, eqb-true, eqb-false, not-false}
-use Rattle.seats.specs.Call.{Act, Call, One, Answer, refused, names, wholePool, asks}
+use Rattle.seats.specs.Call.{Act, Call, One, names, wholePool, asks}
 use Rattle.seats.specs.Refusal.{any, alike, order, refusal}
 use Rattle.seats.proofs.Names.{not-above, among-head}
 use Rattle.seats.proofs.Refusal.{all-pass, below-8}
@@ -15,9 +15,9 @@ use Rattle.nodes.specs.Layout.{Sized, st}
 use Rattle.nodes.specs.Test.{soundB}
 use Rattle.means.specs.Mem.{Mem, cellsOf, fits, poolOf, SoundMem, readsIn}
 use Rattle.means.proofs.Memory.{mem-sound}
-use Rattle.pool.specs.Answers.{Says}
-use Rattle.pool.specs.Guard.{orElse, orNone, givenOf, guardOf, laterOf}
-use Rattle.pool.proofs.Promises.{Counted, none-fits, is-fit, is-cells, is-pool, is-sized, counted-some}
+use Rattle.voxels.specs.Answers.{orElse, orNone}
+use Rattle.pool.specs.Guard.{givenOf, guardOf, laterOf}
+use Rattle.voxels.proofs.Promises.{Counted, none-fits, is-fit, is-cells, is-pool, is-sized, counted-some}
 
 -- ---- the guard, test by test
 module _ (m : Mem) (n : ℕ) (h : Counted n m) (given : ℕ) where
@@ -142,15 +142,6 @@ module _ (i j : ℕ) where
       go true b p q h = absurd (omega arith)
       go false true p q h = absurd (omega arith)
       go false false p q h = (not-above i p, not-above j q)
-
--- ---- a refusal by number
-some-is : (n : ℕ) → (n ≡ 0 → ⊥) → orNone n ≡ some n
-some-is zero h = absurd (h refl)
-some-is (suc n) h = refl
-
--- the answer of a call is the number n of a refusal, in any form
-pub blocked-says : {R : Type 0} (f : Answer → R) (c : Call) (m : Mem) (n : ℕ) → refusal (readsIn m) c ≡ orNone n → (n ≡ 0 → ⊥) → Says f c m (f (refused n)) m
-blocked-says f c m n e h = (refused n, refl, rw (e ∙ some-is n h) (refl, refl))
 
 -- a call on the whole pool of which only 1 to 5 are asked
 pub plain-is : (m : Mem) (c : Call) → asks c .kind ≡ wholePool → laterOf (readsIn m) c ≡ none → {r : ℕ} → r ≡ guardOf m (givenOf c) → refusal (readsIn m) c ≡ orNone r

@@ -1,16 +1,16 @@
 -- The calls on two seats: their refusals and promises, from what the code tested and did. Assumes nothing.
 use mathlib.Core.Path.{_≡_, refl, sym, ap, ap₂, _∙_, subst, fun-ext}
 use mathlib.Core.Bool.{Bool, true, false, not, _&&_, _||_, cond, false≢true}
-use mathlib.Core.List.{List, [], _∷_}
+use mathlib.Core.List.{[], _∷_}
 use mathlib.Core.Logic.{_≢_}
-use mathlib.Core.Option.{Option, none, some}
+use mathlib.Core.Option.{none, some}
 use Prim.Native.Nat.{ℕ, _<_, _≤_}
 use native.Mathlib.Omega.{arith}
 use lib.ListN.{getD}
 use lib.Dec.{leb, eqb}
 use borrow.Author.Tests.{le-leb, lt-leb, eq-eqb, ne-eqb, not-false}
 use Rattle.grid.specs.Node.{Node, put}
-use Rattle.floats.specs.Value.{far, farWith}
+use Rattle.floats.specs.Value.{farWith}
 use Rattle.grid.specs.Combine.{Operation, combineS}
 use Rattle.grid.specs.Whole.{reach, isEmpty, hasHollow}
 use Rattle.grid.proofs.Places.{put-at}
@@ -28,31 +28,24 @@ use Rattle.nodes.specs.Wipe.{wipeM}
 use Rattle.trees.specs.Below.{hollowM, reachedM}
 use Rattle.trees.specs.Combine.{combineM}
 use Rattle.trees.specs.Copy.{copyM}
-use Rattle.trees.specs.Turn.{turnM}
-use Rattle.trees.specs.declared.plan.Join.the-variants.{Union, Intersect}
-use Rattle.trees.specs.declared.turn.Work.the-variants.{Flip}
 use Rattle.means.specs.Joined.{combinedS}
 use Rattle.means.specs.Level.{treeAt, Turned}
 use Rattle.means.specs.Mem.{Mem, cellsOf, fits, poolOf, SoundMem, seatOf, readsIn}
 use Rattle.means.proofs.Below.{hollow-seat, reached-is}
 use Rattle.means.proofs.Copy.{copy-right}
 use Rattle.means.proofs.Memory.{seat-is}
-use Rattle.means.proofs.Turn.{turn-right}
 use Rattle.means.proofs.Combine.{combined-by}
 use Rattle.means.proofs.SeatPair.{pair-sound-after, pair-seats-after}
 use Rattle.means.proofs.SeatTurn.{turn-sound, turn-seats}
 use Rattle.means.proofs.Unspoilt.{unspoilt-mark}
 use Rattle.csg.specs.Joinable.{Joinable}
-use Rattle.pool.specs.Lent.{lent}
-use Rattle.pool.specs.Pair.{operationOf}
-use Rattle.pool.specs.declared.pair.Operation as pair
-use Rattle.pool.specs.declared.pair.Operation.the-variants as pairs
-use Rattle.pool.specs.Answers.{Says, codeOf}
-use Rattle.pool.specs.Guard.{orElse, orNone, givenOf, guardOf, laterOf, solidOf, roomOf, filledOf}
-use Rattle.pool.proofs.Book.{st-mark}
-use Rattle.pool.proofs.Guards.{refusal-guard, served-fits, served-sound, clean-fits, clean-given, clean-sound, two-seats, or-none}
-use Rattle.pool.proofs.Promises.{Counted, counted-some, is-fit, is-cells, is-pool}
-use Rattle.pool.proofs.Turns.{Kept, kept-lens, kept-cells, kept-fits}
+use Rattle.voxels.specs.Lent.{lent}
+use Rattle.voxels.specs.Answers.{Says, orElse, orNone, codeOf}
+use Rattle.pool.specs.Guard.{givenOf, guardOf, laterOf, solidOf, roomOf, filledOf}
+use Rattle.sound.proofs.Book.{st-mark}
+use Rattle.pool.proofs.Guards.{refusal-guard, served-sound, clean-fits, clean-given, clean-sound, two-seats, or-none}
+use Rattle.voxels.proofs.Promises.{Counted, counted-some, is-cells, is-pool}
+use Rattle.voxels.proofs.Turns.{Kept, kept-lens, kept-cells, kept-fits}
 
 -- ---- the refusals of a call on two seats: g is the number of what was given, and r that of the guard
 two-kind : (x : Pair) (i j : ℕ) → (asks (Two x i j) .kind ≡ wholePool) × (asks (Two x i j) .given ≡ true)
@@ -288,27 +281,7 @@ module _ (o : Operation) (m : Mem) (i j : ℕ) (serve : refusal (readsIn m) (Two
       )
 
 -- ---- as the code does it
-pub clear-by : (n b : ℕ) (s : St) {w : ℕ} {r r' : St} → r ≡ s → w ≡ farWith false → r' ≡ wipeM 3 (2 ∷ 2 ∷ []) n w false b r → r' ≡ wipeM 3 (2 ∷ 2 ∷ []) n far false b s
-unfolding farWith
-clear-by n b s e f d = d ∙ ap₂ (λ (w : ℕ) (r : St). wipeM 3 (2 ∷ 2 ∷ []) n w false b r) f e
-
-module _ (n a b : ℕ) (s : St) where
-  -- after a flip of the second they may still be joined
-  pub flipped-may : Joinable n 2 s a b → {r : St} → r ≡ turnM 3 (2 ∷ 2 ∷ []) Flip n b s → Joinable n 2 r a b
-  flipped-may j e =
-      subst (λ (r : St). Joinable n 2 r a b) (sym e) (record { sound = turn-right Flip 2 b (j .sound) (j .at-y) .sound; at-x = j .at-x; at-y = j .at-y; differ = j .differ })
-
-  module _ {o : pair.Operation} {r : St} where
-    pub combined-union : o ≡ pairs.Union → r ≡ wipeM 3 (2 ∷ 2 ∷ []) n far false b (combineM 3 (2 ∷ 2 ∷ []) Union n a b s) → r ≡ combinedS (operationOf o) n a b s
-    unfolding combinedS
-    combined-union e d = d ∙ ap (λ (o : pair.Operation). combinedS (operationOf o) n a b s) (sym e)
-
-    pub combined-subtract : o ≡ pairs.Subtract → {t : St} → t ≡ turnM 3 (2 ∷ 2 ∷ []) Flip n b s → r ≡ wipeM 3 (2 ∷ 2 ∷ []) n far false b (combineM 3 (2 ∷ 2 ∷ []) Intersect n a b t)
-        → r ≡ combinedS (operationOf o) n a b s
-    unfolding combinedS
-    combined-subtract e f d =
-        d ∙ ap (λ (t : St). wipeM 3 (2 ∷ 2 ∷ []) n far false b (combineM 3 (2 ∷ 2 ∷ []) Intersect n a b t)) f ∙ ap (λ (o : pair.Operation). combinedS (operationOf o) n a b s) (sym e)
-
-    pub combined-intersect : o ≡ pairs.Intersect → r ≡ wipeM 3 (2 ∷ 2 ∷ []) n far false b (combineM 3 (2 ∷ 2 ∷ []) Intersect n a b s) → r ≡ combinedS (operationOf o) n a b s
-    unfolding combinedS
-    combined-intersect e d = d ∙ ap (λ (o : pair.Operation). combinedS (operationOf o) n a b s) (sym e)
+pub combined-is : (o : Operation) (n a b : ℕ) (s : St) {w : ℕ} {r r' : St} → r ≡ combineM 3 (2 ∷ 2 ∷ []) o n a b s → w ≡ farWith false → r' ≡ wipeM 3 (2 ∷ 2 ∷ []) n w false b r
+    → r' ≡ combinedS o n a b s
+unfolding farWith combinedS
+combined-is o n a b s e f d = d ∙ ap₂ (λ (w : ℕ) (r : St). wipeM 3 (2 ∷ 2 ∷ []) n w false b r) f e

@@ -1,12 +1,12 @@
 -- What is done to a whole seat: the promise of every such call, from what the code tested and did. Assumes nothing.
-use mathlib.Core.Path.{_≡_, refl, sym, ap, ap₂, _∙_, subst}
+use mathlib.Core.Path.{_≡_, refl, sym, ap, ap₂, _∙_}
 use mathlib.Core.Bool.{Bool, true, false, cond}
-use mathlib.Core.List.{List, [], _∷_}
+use mathlib.Core.List.{[], _∷_}
 use mathlib.Core.Option.{none, some}
-use Prim.Native.Nat.{ℕ, _<_, _≤_}
+use Prim.Native.Nat.{ℕ, _<_}
 use native.Mathlib.Omega.{arith}
 use lib.Dec.{leb, eqb}
-use Rattle.floats.specs.Value.{isFinite, far, farWith}
+use Rattle.floats.specs.Value.{isFinite, farWith}
 use Rattle.grid.specs.Node.{Node}
 use Rattle.grid.specs.Whole.{flip, hasHollow}
 use Rattle.seats.specs.Call.{One, asks, wholePool, done}
@@ -26,20 +26,21 @@ use Rattle.means.proofs.Memory.{seat-is}
 use Rattle.means.proofs.Signs.{fill-signs-right}
 use Rattle.means.proofs.Turn.{turn-right}
 use Rattle.means.proofs.Wipe.{wipe-fill, wipe-clear}
-use Rattle.pool.specs.Lent.{lent}
-use Rattle.pool.specs.Answers.{Says, codeOf}
-use Rattle.pool.specs.Guard.{orElse, orNone, guardOf, laterOf, solidOf}
+use Rattle.voxels.specs.Lent.{lent}
+use Rattle.voxels.specs.Answers.{Says, codeOf}
+use Rattle.voxels.specs.Answers.{orElse, orNone}
+use Rattle.pool.specs.Guard.{guardOf, laterOf, solidOf}
 use Rattle.pool.specs.Task.{turnAct, actOf, workS, turnMark, markOf, changeS}
 use Rattle.trees.specs.Below.{hollowM}
-use Rattle.trees.specs.Signs.{fillSignsM}
+use Rattle.signs.specs.Signs.{fillSignsM}
 use Rattle.trees.specs.Turn.{turnM}
 use Rattle.trees.specs.declared.turn.Work.{Work}
 use Rattle.trees.specs.declared.turn.Work.the-variants as work
 use Rattle.pool.specs.declared.seat.Task.{Task}
 use Rattle.pool.specs.declared.seat.Task.the-variants as task
 use Rattle.pool.proofs.Guards.{refusal-guard, served-given, served-sound, clean-fits, clean-given, clean-sound, one-seat, or-none}
-use Rattle.pool.proofs.Promises.{Counted, counted-some, is-cells, is-pool}
-use Rattle.pool.proofs.Turns.{Kept, turns}
+use Rattle.voxels.proofs.Promises.{Counted, counted-some, is-cells, is-pool}
+use Rattle.voxels.proofs.Turns.{Kept, turns}
 
 -- ---- the refusals
 

@@ -16,7 +16,7 @@ use Rattle.seats.specs.Promise.{among, OnlyAnswer}
 use Rattle.seats.specs.Seat.{marked, fresh, reached}
 use Rattle.seats.proofs.PairRules as rule
 use Rattle.means.specs.Mem.{Mem, SoundMem, seatOf}
-use Rattle.pool.specs.Lent.{lent}
+use Rattle.voxels.specs.Lent.{lent}
 use Rattle.pool.proofs.WholeSeats.{Done, Asked, Counted, Alike, Signless, Emptied}
 
 -- r is the answer to the call c on m: there is no other

@@ -7,41 +7,39 @@ use Prim.Native.Nat.{ℕ, zero, suc, _+_, _-_, _*_, _%_, _<_, _≤_}
 use native.Mathlib.Omega.{arith}
 use lib.ListN.{length, getD, take, drop}
 use lib.Dec.{ltb, leb, eqb}
-use borrow.Author.Tests.{ltb-true, lt-leb}
-use Rattle.floats.specs.Value.{negative}
+use borrow.Author.Tests.{ltb-true}
 use Rattle.floats.proofs.Words.{on-case}
 use Rattle.bitset.specs.Set.{bitOf, every, empty}
 use Rattle.bitset.proofs.Every.{both-ways, and-both, every-intro, every-elim}
 use Rattle.bitset.proofs.Parts.{bit-part}
-use Rattle.grid.specs.Geometry.{Point}
 use Rattle.grid.specs.Node as node
 use Rattle.grid.specs.Node.{Node, isHidden, size}
 use Rattle.grid.specs.Whole.{isEmpty}
-use Rattle.seats.specs.Call.{One, Sign, IsEmpty, Prepare, Count, refused, negativeIs, emptyIs, freeCells, done}
+use Rattle.seats.specs.Call.{One, IsEmpty, Prepare, Count, emptyIs, freeCells, done}
 use Rattle.seats.specs.Refusal.{refusal}
 use Rattle.seats.specs.Seat.{Seat, State, fresh}
 use Rattle.seats.specs.Step.{step, play, served}
 use Rattle.nodes.specs.State.{St, slotAt, tree}
 use Rattle.nodes.specs.Layout.{st, wordOf, countPlace}
-use Rattle.nodes.specs.Walk.{Reach, active, hidden, broken, reachS, pointOf, voxelOf}
 use Rattle.nodes.proofs.Places.{word-top}
 use Rattle.nodes.proofs.States.{st-kid, st-val}
 use Rattle.means.specs.Level.{Same}
 use Rattle.means.specs.Unspoilt.{Unspoilt}
-use Rattle.means.specs.Mem.{Mem, cellsOf, poolOf, SoundMem, seatOf, stateOf, lensOf, walk, readsIn, UnspoiltMem}
+use Rattle.means.specs.Mem.{Mem, cellsOf, poolOf, SoundMem, seatOf, stateOf, lensOf, readsIn, UnspoiltMem}
 use Rattle.means.specs.Prepared.{Ready}
 use Rattle.means.proofs.Memory.{fitting, seat-is}
 use Rattle.means.proofs.Prepared.{ready-sound, ready-fresh}
-use Rattle.pool.specs.Answers.{Says, codeOf, countOf, whetherOf, signedR}
-use Rattle.pool.specs.Guard.{orNone, guardOf}
+use Rattle.voxels.specs.Answers.{Says, codeOf, whetherOf}
+use Rattle.pool.specs.Count.{countOf}
+use Rattle.voxels.specs.Answers.{orNone}
+use Rattle.pool.specs.Guard.{guardOf}
 use Rattle.pool.specs.declared.whole.Free.the-variants as free
-use Rattle.pool.specs.declared.whole.Whether.{Whether}
-use Rattle.pool.specs.declared.whole.Whether.the-variants as whether
-use Rattle.pool.proofs.Book.{st-count, st-mark}
-use Rattle.pool.proofs.Checks.{passed, failed}
+use Rattle.voxels.specs.declared.sign.Whether.the-variants as whether
+use Rattle.sound.proofs.Book.{st-count}
+use Rattle.sound.proofs.Checks.{passed, failed}
 use Rattle.pool.proofs.Guards.{plain-is, served-seat, served-sound}
-use Rattle.pool.proofs.Promises.{Counted, counted-some, is-fit, is-cells, is-pool, is-walk}
-use Rattle.pool.proofs.Ready.{top, prepared-unspoilt}
+use Rattle.voxels.proofs.Promises.{Counted, counted-some, is-fit, is-cells, is-pool}
+use Rattle.sound.proofs.Ready.{top, prepared-unspoilt}
 
 -- ---- preparing: m is the memory before it, and m' after it
 
@@ -143,26 +141,6 @@ module _ (n : ℕ) (slots masks book : List ℕ) (t : ℕ) (l : t < 8) where
 
     pub vals-say : not r ≡ false → (q : Bool) → q ≡ empty vals 512 → q ≡ isEmpty 3 (2 ∷ 2 ∷ []) grid
     vals-say f q d = d ∙ sym (empty-is ∙ rw (passed r e f) refl)
-
--- ---- a memory whose lengths belong together, for n cells
-
-module _ (m : Mem) (n : ℕ) (h : Counted n m) (z : n ≡ 0 → ⊥) where
-  -- the sign at a point of seat i, by the end of the walk there and the seat's mark
-  pub sign-says : (i v : ℕ) (p : Point) {r : Whether} → i ≤ 7 → v ≡ voxelOf p
-      → r ≡ signedR (reachS 3 (2 ∷ 2 ∷ []) n (st n (m .slots) (m .masks) (m .book)) i (pointOf v)) (eqb (getD (m .book) i 0) 1)
-      → Says whetherOf (One i (Sign p)) m r m
-  sign-says i v p l d b =
-      subst (λ (r : Whether). Says whetherOf (One i (Sign p)) m r m) (sym (b ∙ ap₂ signedR (is-walk m n h z i v p d) filled)) (go (walk m i p) (eqb (poolOf m .mark i) 1) refl refl)
-    where
-      filled : eqb (getD (m .book) i 0) 1 ≡ eqb (poolOf m .mark i) 1
-      filled = ap (λ (k : ℕ). eqb k 1) (sym (st-mark n (m .slots) (m .masks) (m .book) i (omega arith)) ∙ ap (λ (s : St). s .mark i) (is-pool m n h z))
-
-      go : (r : Reach) (f : Bool) → walk m i p ≡ r → eqb (poolOf m .mark i) 1 ≡ f → Says whetherOf (One i (Sign p)) m (signedR r f) m
-      go (active k u) true e q = (negativeIs (negative u), refl, rw (is-fit m n h z, lt-leb 8 i (omega arith), e, q) (refl, refl))
-      go (active k u) false e q = (refused 6, refl, rw (is-fit m n h z, lt-leb 8 i (omega arith), e, q) (refl, refl))
-      go (hidden k u) true e q = (negativeIs (negative u), refl, rw (is-fit m n h z, lt-leb 8 i (omega arith), e, q) (refl, refl))
-      go (hidden k u) false e q = (refused 6, refl, rw (is-fit m n h z, lt-leb 8 i (omega arith), e, q) (refl, refl))
-      go broken f e q = (refused 5, refl, rw (is-fit m n h z, lt-leb 8 i (omega arith), e) (refl, refl))
 
 -- ---- a call that tests the whole pool and is served
 pub count-says : (m : Mem) → refusal (readsIn m) Count ≡ none → (k : ℕ) → k ≡ getD (m .book) countPlace 0 → Says countOf Count m (free.Cells k) m

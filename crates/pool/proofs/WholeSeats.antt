@@ -23,8 +23,8 @@ use Rattle.seats.proofs.Refusal.{refusal-number}
 use Rattle.seats.proofs.SeatRules as rule
 use Rattle.seats.proofs.SeatRules.{contrary}
 use Rattle.means.specs.Mem.{Mem, SoundMem, seatOf, stateOf, readsIn}
-use Rattle.pool.specs.Answers.{Says, codeOf}
-use Rattle.pool.specs.Lent.{lent}
+use Rattle.voxels.specs.Answers.{Says, codeOf}
+use Rattle.voxels.specs.Lent.{lent}
 
 -- the call c is accepted on m and leaves m'; r is an answer to it; k free cells are counted; lookups in seat i' of m' are answered as in seat i of m; seat i has no
 -- sign; it answers as after Clear

@@ -1,8 +1,8 @@
 -- The refusals of a call on the whole pool by number, 0 where there is none: those that its arguments give, the tests before and after them, and the rest. Assumes nothing.
 use mathlib.Core.Bool.{cond, _&&_, _||_}
-use mathlib.Core.List.{List, [], _∷_}
-use mathlib.Core.Option.{Option, none, some}
-use Prim.Native.Nat.{ℕ, zero, suc}
+use mathlib.Core.List.{[], _∷_}
+use mathlib.Core.Option.{Option}
+use Prim.Native.Nat.{ℕ}
 use lib.Dec.{leb, eqb}
 use Rattle.grid.specs.Whole.{isEmpty}
 use Rattle.seats.specs.Call.{Call, names, asks}
@@ -11,14 +11,6 @@ use Rattle.nodes.specs.State.{tree}
 use Rattle.nodes.specs.Test.{soundB}
 use Rattle.trees.specs.Below.{hollowM, reachedM}
 use Rattle.means.specs.Mem.{Mem, cellsOf, fits, poolOf}
-
--- the number of a refusal, 0 for none; where it is none, the other
-abbrev pub orElse : ℕ → Option ℕ → Option ℕ
-orElse zero o = o
-orElse (suc n) o = some (suc n)
-
-abbrev pub orNone : ℕ → Option ℕ
-orNone n = orElse n none
 
 -- 2, 3 and 4: what the call was given
 abbrev pub givenOf : Call → ℕ

@@ -7,7 +7,7 @@ use Rattle.seats.specs.Call.{Act, Fill, Cut, Clear, Prune, Flip, FillSigns}
 use Rattle.nodes.specs.State.{St}
 use Rattle.nodes.specs.Change.{markS}
 use Rattle.nodes.specs.Wipe.{wipeM}
-use Rattle.trees.specs.Signs.{fillSignsM}
+use Rattle.signs.specs.Signs.{fillSignsM}
 use Rattle.trees.specs.Turn.{turnM}
 use Rattle.trees.specs.declared.turn.Work.{Work}
 use Rattle.trees.specs.declared.turn.Work.the-variants as work

@@ -1,10 +1,10 @@
 // The tests that the calls on the whole pool have in common, in the order of the refusals.
-use super::lengths;
-use super::test;
+use sound::lengths;
+use sound::test;
 ghost use mathlib.Core.Path.{_≡_};
 ghost use mathlib.Core.Bool.{cond, _||_};
 ghost use lib.Dec.{leb, eqb};
-ghost use Rattle.pool.specs.Answers.{memOf};
+ghost use Rattle.voxels.specs.Answers.{memOf};
 ghost use Rattle.pool.specs.Guard.{guardOf};
 
 // The refusal that the arguments of a call on one seat give, where `finite` tells of its values; 0 if none.

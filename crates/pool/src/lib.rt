@@ -1,10 +1,5 @@
-// The lent memory as a whole: the test that its lengths belong together, preparing it, the test that the pool in it is sound, and the calls on it and on its seats.
-pub mod free;
+// The calls on the lent memory as a whole and on its seats, each with the tests that it makes first.
 pub mod guard;
-pub mod lengths;
 pub mod pair;
-pub mod prepare;
 pub mod seat;
-pub mod test;
-pub mod voxel;
 pub mod whole;

@@ -1,14 +1,12 @@
 // The calls on two seats. Each tests what it was given and then the whole pool before it changes anything.
 use super::guard;
-use super::lengths;
 use super::seat;
 use super::whole;
 use nodes::cells;
 use nodes::wipe;
+use sound::lengths;
 use trees::below;
-use trees::plan::Join;
-use trees::turn;
-use trees::turn::Work;
+use trees::take::Join;
 ghost use mathlib.Core.Path.{_≡_};
 ghost use mathlib.Core.Bool.{true, false};
 ghost use mathlib.Core.List.{[], _∷_};
@@ -18,16 +16,14 @@ ghost use Rattle.seats.specs.Call.{Two, Copy, Combine};
 ghost use Rattle.seats.specs.Refusal.{refusal};
 ghost use Rattle.nodes.specs.Change.{markS};
 ghost use Rattle.nodes.specs.Layout.{st, Sized};
-ghost use Rattle.floats.specs.Value.{far};
-ghost use Rattle.nodes.specs.Wipe.{wipeM};
 ghost use Rattle.trees.specs.Copy.{copyM};
-ghost use Rattle.trees.specs.Combine.{combineM};
+ghost use Rattle.trees.specs.Combine.{joinO};
 ghost use Rattle.means.specs.Joined.{combinedS};
 ghost use Rattle.csg.specs.Joinable.{Joinable};
-ghost use Rattle.pool.specs.Pair.{operationOf};
 ghost use Rattle.means.specs.Mem.{fits, readsIn};
-ghost use Rattle.pool.specs.Answers.{memOf, Says, codeOf};
-ghost use Rattle.pool.specs.Guard.{orNone, roomOf, filledOf};
+ghost use Rattle.voxels.specs.Answers.{memOf, Says, codeOf};
+ghost use Rattle.voxels.specs.Answers.{orNone};
+ghost use Rattle.pool.specs.Guard.{roomOf, filledOf};
 
 // Refusal 8 or 9 of a copy, or 0: the target has to be empty, and the pool to have as many free cells as the source reaches.
 fn room(slots: &[u32], masks: &[u64], book: &[u32], from: u32, to: u32) -> u32
@@ -112,15 +108,8 @@ fn combine_barred(slots: &[u32], masks: &[u64], book: &[u32], a: u32, b: u32) ->
     filled(slots, masks, book, a, b)
 }
 
-// How two seats are combined.
-pub enum Operation {
-    Union,
-    Subtract,
-    Intersect,
-}
-
 // Seat b is joined into seat a, and then cleared: the cells of it that a did not take are free.
-fn join_and_clear(
+fn combined(
     slots: &mut [u32],
     masks: &mut [u64],
     book: &mut [u32],
@@ -130,41 +119,10 @@ fn join_and_clear(
     join: Join,
 )
     requires { ⌜ (Sized n (now slots) (now masks) (now book)) × (Joinable n 2 (st n (now slots) (now masks) (now book)) a b) ⌝ }
-    ensures { λ _. ⌜ st n (now (slots .exit)) (now (masks .exit)) (now (book .exit))
-        ≡ wipeM 3 (2 ∷ 2 ∷ []) n far false b (combineM 3 (2 ∷ 2 ∷ []) join n a b (st n (now (slots .entry)) (now (masks .entry)) (now (book .entry)))) ⌝ }
+    ensures { λ _. ⌜ st n (now (slots .exit)) (now (masks .exit)) (now (book .exit)) ≡ combinedS (joinO join) n a b (st n (now (slots .entry)) (now (masks .entry)) (now (book .entry))) ⌝ }
 {
     csg::combine::combine(slots, masks, book, n, 2, a, b, join);
-    wipe::wipe(slots, masks, book, n, 2, b, floats::far_word(false), false);
-}
-
-// The operation on two seats. To subtract b is to intersect with b flipped.
-fn combined(
-    slots: &mut [u32],
-    masks: &mut [u64],
-    book: &mut [u32],
-    n: usize,
-    a: usize,
-    b: usize,
-    operation: Operation,
-)
-    requires { ⌜ (Sized n (now slots) (now masks) (now book)) × (Joinable n 2 (st n (now slots) (now masks) (now book)) a b) ⌝ }
-    ensures { λ _. ⌜ st n (now (slots .exit)) (now (masks .exit)) (now (book .exit)) ≡ combinedS (operationOf operation) n a b (st n (now (slots .entry)) (now (masks .entry)) (now (book .entry))) ⌝ }
-{
-    match operation {
-        Operation::Union => {
-            join_and_clear(slots, masks, book, n, a, b, Join::Union);
-            return;
-        }
-        Operation::Subtract => {
-            turn::turn(slots, masks, book, n, 2, b, Work::Flip);
-            join_and_clear(slots, masks, book, n, a, b, Join::Intersect);
-            return;
-        }
-        Operation::Intersect => {
-            join_and_clear(slots, masks, book, n, a, b, Join::Intersect);
-            return;
-        }
-    }
+    wipe::wipe(slots, masks, book, n, b, floats::far_word(false), false);
 }
 
 fn combine_unmark(
@@ -174,12 +132,12 @@ fn combine_unmark(
     n: usize,
     a: usize,
     b: usize,
-    operation: Operation,
+    join: Join,
 )
     requires { ⌜ (Sized n (now slots) (now masks) (now book)) × (Joinable n 2 (st n (now slots) (now masks) (now book)) a b) ⌝ }
-    ensures { λ _. ⌜ st n (now (slots .exit)) (now (masks .exit)) (now (book .exit)) ≡ markS b 0 (combinedS (operationOf operation) n a b (st n (now (slots .entry)) (now (masks .entry)) (now (book .entry)))) ⌝ }
+    ensures { λ _. ⌜ st n (now (slots .exit)) (now (masks .exit)) (now (book .exit)) ≡ markS b 0 (combinedS (joinO join) n a b (st n (now (slots .entry)) (now (masks .entry)) (now (book .entry)))) ⌝ }
 {
-    combined(slots, masks, book, n, a, b, operation);
+    combined(slots, masks, book, n, a, b, join);
     cells::set_mark(book, b, 0);
 }
 
@@ -190,15 +148,15 @@ pub fn combine(
     book: &mut [u32],
     a: u32,
     b: u32,
-    operation: Operation,
+    join: Join,
 ) -> u32
-    ensures { λ r. ⌜ Says codeOf (Two (Combine (operationOf operation)) a b) (memOf (now (slots .entry)) (now (masks .entry)) (now (book .entry))) r (memOf (now (slots .exit)) (now (masks .exit)) (now (book .exit))) ⌝ }
+    ensures { λ r. ⌜ Says codeOf (Two (Combine (joinO join)) a b) (memOf (now (slots .entry)) (now (masks .entry)) (now (book .entry))) r (memOf (now (slots .exit)) (now (masks .exit)) (now (book .exit))) ⌝ }
 {
     let no = combine_barred(slots, masks, book, a, b);
     if no != 0 {
         return no;
     }
     let n = lengths::cells(slots.len(), masks.len(), book.len());
-    combine_unmark(slots, masks, book, n, a as usize, b as usize, operation);
+    combine_unmark(slots, masks, book, n, a as usize, b as usize, join);
     0
 }

@@ -1,10 +1,9 @@
 // The calls that change a seat as a whole: one body serves them all. It tests what it was given and then the whole pool before it changes anything.
 use super::guard;
-use super::lengths;
 use nodes::cells;
 use nodes::wipe;
+use sound::lengths;
 use trees::below;
-use trees::signs;
 use trees::turn;
 use trees::turn::Work;
 ghost use mathlib.Core.Path.{_≡_};
@@ -14,8 +13,9 @@ ghost use Rattle.seats.specs.Call.{One, asks};
 ghost use Rattle.seats.specs.Refusal.{refusal};
 ghost use Rattle.nodes.specs.Layout.{st, Sized};
 ghost use Rattle.means.specs.Mem.{fits, readsIn};
-ghost use Rattle.pool.specs.Answers.{memOf, Says, codeOf};
-ghost use Rattle.pool.specs.Guard.{orNone, solidOf};
+ghost use Rattle.voxels.specs.Answers.{memOf, Says, codeOf};
+ghost use Rattle.voxels.specs.Answers.{orNone};
+ghost use Rattle.pool.specs.Guard.{solidOf};
 ghost use Rattle.pool.specs.Task.{turnAct, actOf, workS, turnMark, markOf, changeS};
 
 // What is done to a whole seat.
@@ -84,20 +84,11 @@ fn work(slots: &mut [u32], masks: &mut [u64], book: &mut [u32], n: usize, seat: 
 {
     match task {
         Task::Fill(w) => {
-            wipe::wipe(slots, masks, book, n, 2, seat, w, true);
+            wipe::wipe(slots, masks, book, n, seat, w, true);
             return;
         }
         Task::Clear => {
-            wipe::wipe(
-                slots,
-                masks,
-                book,
-                n,
-                2,
-                seat,
-                floats::far_word(false),
-                false,
-            );
+            wipe::wipe(slots, masks, book, n, seat, floats::far_word(false), false);
             return;
         }
         Task::Turn(work) => {
@@ -105,7 +96,7 @@ fn work(slots: &mut [u32], masks: &mut [u64], book: &mut [u32], n: usize, seat: 
             return;
         }
         Task::Signs => {
-            signs::fill_signs(slots, masks, n, 2, seat);
+            signs::fill::fill_signs(slots, masks, n, 2, seat);
             return;
         }
     }

@@ -1,24 +1,21 @@
-// Preparing and counting the pool, and the calls that ask whether something is so of a seat. Preparing alone changes memory, and only once the lengths are known to belong together.
+// Preparing and counting the pool, and whether a seat is empty. Preparing alone changes memory, and only once the lengths are known to belong together.
 use super::guard;
-use super::lengths;
-use nodes::geometry;
 use nodes::geometry::Top;
 use nodes::memory::COUNT;
 use nodes::memory::TOP_MASKS;
 use nodes::memory::TOP_WORDS;
-use nodes::seek;
-use nodes::seek::ENDS;
+use sound::lengths;
+use voxels::sign::Whether;
 ghost use mathlib.Core.Path.{_≡_};
 ghost use mathlib.Core.List.{List, [], _∷_};
-ghost use Prim.Native.Nat.{ℕ, _%_, _<_};
-ghost use Rattle.grid.specs.Geometry.{Point};
+ghost use Prim.Native.Nat.{ℕ, _<_};
 ghost use Rattle.grid.specs.Whole.{isEmpty};
-ghost use Rattle.seats.specs.Call.{One, Sign, IsEmpty, Prepare, Count};
+ghost use Rattle.seats.specs.Call.{One, IsEmpty, Prepare, Count};
 ghost use Rattle.nodes.specs.State.{tree};
-ghost use Rattle.nodes.specs.Layout.{st, slotsLength};
-ghost use Rattle.nodes.specs.Range.{Slotted, Masked};
-ghost use Rattle.nodes.specs.Walk.{reachS, voxelOf, voxels};
-ghost use Rattle.pool.specs.Answers.{memOf, Says, codeOf, countOf, EndsAt, whetherOf, signedR};
+ghost use Rattle.nodes.specs.Layout.{st};
+ghost use Rattle.nodes.specs.Range.{Masked};
+ghost use Rattle.voxels.specs.Answers.{memOf, Says, codeOf, whetherOf};
+ghost use Rattle.pool.specs.Count.{countOf};
 
 // Every cell is freed and every seat emptied, whatever the memory held. Answers 0, or 1 where the lengths do not belong together.
 pub fn prepare(slots: &mut [u32], masks: &mut [u64], book: &mut [u32]) -> u32
@@ -28,7 +25,7 @@ pub fn prepare(slots: &mut [u32], masks: &mut [u64], book: &mut [u32]) -> u32
     if n == 0 {
         return 1;
     }
-    super::prepare::prepare(slots, masks, book, n);
+    sound::prepare::prepare(slots, masks, book, n);
     0
 }
 
@@ -47,12 +44,6 @@ pub fn count(slots: &[u32], masks: &[u64], book: &[u32]) -> Free
         return Free::Refused(no);
     }
     Free::Cells(book[COUNT])
-}
-
-// What a question about a seat answers.
-pub enum Whether {
-    Is(bool),
-    Refused(u32),
 }
 
 // Both masks of the top of seat t are empty: no slot of it is a branch or an active tile. A top has 8 words in each mask, and the tops come first.
@@ -78,40 +69,4 @@ pub fn is_empty(slots: &[u32], masks: &[u64], book: &[u32], seat: u32) -> Whethe
     }
     let n = lengths::cells(slots.len(), masks.len(), book.len());
     Whether::Is(both_empty(masks, n, seat as usize))
-}
-
-// Whether the value at the end of a walk, of the number r, is negative, which only a filled seat tells. A broken path is refused first, filled or not. -0 is negative, so the
-// sign bit is looked at and no number compared.
-fn signed(slots: &[u32], n: usize, r: usize, filled: bool) -> Whether
-    requires { ⌜ (Slotted n (now slots)) × (r % 0x100_0000 < slotsLength n) ⌝ }
-    ensures { λ f. ⌜ ((masks book : List ℕ) (p : Point) (i : ℕ) → EndsAt n (st n (now (slots .entry)) masks book) i p r → f ≡ signedR (reachS 3 (2 ∷ 2 ∷ []) n (st n (now (slots .entry)) masks book) i p) filled) ⌝ }
-{
-    if r == 0 {
-        return Whether::Refused(5);
-    }
-    let w = slots[r % ENDS];
-    if !floats::finite_word(w) {
-        return Whether::Refused(5);
-    }
-    if filled {
-        return Whether::Is(floats::negative_word(w));
-    }
-    Whether::Refused(6)
-}
-
-// Whether the value at a voxel of a filled seat, active or hidden, is negative. A mark of 1 alone is set.
-pub fn sign(slots: &[u32], masks: &[u64], book: &[u32], seat: u32, v: usize) -> Whether
-    requires { ⌜ v < voxels ⌝ }
-    ensures { λ r. ⌜ ((p : Point) → v ≡ voxelOf p → Says whetherOf (One seat (Sign p)) (memOf (now (slots .entry)) (now (masks .entry)) (now (book .entry))) r (memOf (now (slots .entry)) (now (masks .entry)) (now (book .entry)))) ⌝ }
-{
-    let n = lengths::cells(slots.len(), masks.len(), book.len());
-    if n == 0 {
-        return Whether::Refused(1);
-    }
-    if 7 < seat {
-        return Whether::Refused(2);
-    }
-    let t = seat as usize;
-    let r = seek::seek(slots, masks, n, t, geometry::path(v));
-    signed(slots, n, r, book[t] == 1)
 }

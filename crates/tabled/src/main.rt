@@ -7,7 +7,7 @@ ghost use Prim.Native.Nat.{_≤_};
 fn accepted(n: usize) -> bool
     requires { ⌜ (1 ≤ n) × (n ≤ 65536) ⌝ }
 {
-    pool::lengths::cells(4096 + 64 * n, 128 + 2 * n, 9 + 2 * n) == n
+    sound::lengths::cells(4096 + 64 * n, 128 + 2 * n, 9 + 2 * n) == n
 }
 
 // Writes n and the verdict.

@@ -1,17 +1,28 @@
 -- What is read of all that hangs below a node, slot by slot as the code goes: whether a branch is empty, and the number of cells. Assumes nothing.
-use mathlib.Core.Path.{_≡_, refl, sym, ap, _∙_, subst}
-use mathlib.Core.Bool.{Bool, true, false, not, cond}
-use Prim.Native.Nat.{ℕ, zero, suc, _+_, _-_, _<_, _≤_}
+use mathlib.Core.Path.{_≡_, refl, sym, ap, ap₂, _∙_, subst}
+use mathlib.Core.Bool.{Bool, true, false, not, cond, _&&_, _||_, Bool·not-not}
+use mathlib.Core.List.{List}
+use Prim.Native.Nat.{ℕ, zero, suc, _+_, _-_, _*_, _<_, _≤_}
 use native.Mathlib.Numerals.{add-one}
 use native.Mathlib.Omega.{arith}
-use Rattle.bitset.specs.Set.{every}
-use Rattle.bitset.proofs.Every.{every-intro, every-elim}
+use lib.Dec.{ltb}
+use lib.ListN.{getD}
+use Rattle.bitset.specs.Set.{every, wordBit, bitOf}
+use Rattle.bitset.proofs.Words.{zero-bit}
+use Rattle.bitset.proofs.Sets.{has-own}
+use Rattle.bitset.proofs.Every.{every-intro, every-elim, every-alike}
+use Rattle.bitset.proofs.First.{Leads, less, less-off, less-other}
+use Rattle.bitset.proofs.Left.{left}
 use Rattle.floats.proofs.Words.{on-case}
-use Rattle.grid.specs.Node.{size, sum}
+use Rattle.grid.specs.Node.{size, put, sum}
+use Rattle.grid.proofs.Places.{put-at, sum-same, sum-zero, sum-put}
 use Rattle.nodes.specs.State.{St}
+use Rattle.nodes.specs.Layout.{st}
 use Rattle.nodes.specs.Remove.{bareS}
 use Rattle.nodes.specs.Walk.{branching, below}
 use Rattle.nodes.specs.declared.walk.Below.the-variants.{Go, Stop}
+use Rattle.nodes.proofs.Places.{cell-in, cell-word}
+use Rattle.nodes.proofs.States.{st-slot, st-kid}
 use Rattle.nodes.proofs.Paths.{one-less}
 use Rattle.trees.specs.Slot.{childS, childR}
 use Rattle.trees.specs.Below.{hollowAt, hollowM, reachedAt, reachedM}
@@ -118,3 +129,74 @@ few n (suc (suc l)) s x h = absurd (over h)
 
 pub reached-few : (n l : ℕ) (s : St) (x : ℕ) {r : ℕ} → r ≡ reachedM (branching l) (below l) n s x → l ≤ 1 → r ≤ 64
 reached-few n l s x e h = omega (arith, few n l s x h)
+
+-- ---- a middle node, by the bits of its child mask that are on: the leaf below slot k of node x, if the slot is a branch
+abbrev pub leafBare : ℕ → St → ℕ → ℕ → Bool
+leafBare n s x k = ltb (s .slot x k) n && bareS (below 0) s (8 + s .slot x k)
+
+abbrev pub leafCounted : ℕ → St → ℕ → ℕ → ℕ
+leafCounted n s x k = cond (ltb (s .slot x k) n) 1 0
+
+-- where the slot's word was read as d
+module _ (n : ℕ) (s : St) (x k : ℕ) {d : ℕ} (e : d ≡ s .slot x k) where
+  pub leaf-bare : {b : Bool} → b ≡ ltb d n && bareS (below 0) s (8 + d) → leafBare n s x k ≡ b
+  leaf-bare p = ap (λ (d : ℕ). ltb d n && bareS (below 0) s (8 + d)) (sym e) ∙ sym p
+
+  pub leaf-counted : {r : ℕ} → r ≡ cond (ltb d n) 1 0 → r ≡ leafCounted n s x k
+  leaf-counted p = p ∙ ap (λ (d : ℕ). cond (ltb d n) 1 0) e
+
+-- what is read of a cell: its word of the child mask, and the word of a slot
+module _ (slots masks book : List ℕ) {n c : ℕ} (h : c < n) (k : ℕ) (q : k < 64) where
+  pub kids-are : wordBit (getD masks (64 + c) 0) k ≡ st n slots masks book .kid (8 + c) k
+  kids-are = has-own masks (64 + c) k q ∙ ap (bitOf masks) (sym (cell-word c k)) ∙ sym (st-kid slots masks book (cell-in h (8 + c) k refl q))
+
+  pub link-is : {p : ℕ} → p ≡ 64 * (64 + c) + k → getD slots p 0 ≡ st n slots masks book .slot (8 + c) k
+  link-is e = ap (λ (p : ℕ). getD slots p 0) (e ∙ sym (cell-word c k)) ∙ sym (st-slot slots masks book (cell-in h (8 + c) k refl q))
+
+-- f summed over the bits of w that are on
+abbrev pub bits : (ℕ → ℕ) → ℕ → ℕ
+bits f w = sum 64 (λ j. cond (wordBit w j) (f j) 0)
+
+module _ (n : ℕ) (s : St) (x w : ℕ) (e : (k : ℕ) → k < 64 → wordBit w k ≡ s .kid x k) where
+  pub hollow-bits : not (hollowM (branching 1) (below 1) n s x) ≡ left (λ k. not (leafBare n s x k)) w
+  unfolding hollowM size
+  hollow-bits =
+      Bool·not-not (every (λ k. not (hollowBelow n 0 s x k)) 64)
+      ∙ every-alike (λ k. not (hollowBelow n 0 s x k)) (λ k. cond (wordBit w k) (not (leafBare n s x k)) true) 64
+      (λ k h. rw (e k h) (same (s .kid x k) (ltb (s .slot x k) n) (bareS (below 0) s (8 + s .slot x k))))
+    where
+      same : (a b c : Bool) → not (cond (a && b) (c || false) false) ≡ cond a (not (b && c)) true
+      same true true true = refl
+      same true true false = refl
+      same true false c = refl
+      same false b c = refl
+
+  pub reached-bits : 0 + bits (leafCounted n s x) w ≡ reachedM (branching 1) (below 1) n s x
+  unfolding reachedM size
+  reached-bits = none (bits (leafCounted n s x) w) ∙ sum-same 64 (λ k. cond (wordBit w k) (leafCounted n s x k) 0) (cellsBelow n 0 s x) (λ k h. rw (e k h) (same (s .kid x k) (ltb (s .slot x k) n)))
+    where
+      none : (m : ℕ) → 0 + m ≡ m
+      none m = omega arith
+
+      same : (a b : Bool) → _≡_ {A = ℕ} (cond a (cond b 1 0) 0) (cond (a && b) 1 0)
+      same true b = refl
+      same false b = refl
+
+-- the loop that sums: t is the whole sum, of which c is summed
+module _ (f : ℕ → ℕ) (c : ℕ) {w t : ℕ} (e : c + bits f w ≡ t) where
+  pub bits-none : w ≡ 0 → c ≡ t
+  bits-none z = omega (arith, e, sum-zero 64 (λ j. cond (wordBit w j) (f j) 0) (λ j h. ap (λ (v : ℕ). cond (wordBit v j) (f j) 0) z ∙ rw (zero-bit j) refl))
+
+  pub bits-more : {i r : ℕ} → Leads w i → r ≡ f i → c + r + bits f (less w i) ≡ t
+  bits-more {i} {r} d p =
+      let g : ℕ → ℕ = λ j. cond (wordBit w j) (f j) 0 in
+      let there : g i ≡ f i = rw (d .on) refl in
+      let rest : sum 64 (put g i 0) ≡ bits f (less w i) =
+      sum-same 64 (put g i 0) (λ j. cond (wordBit (less w i) j) (f j) 0) (λ j h. put-at (λ a. a ≡ cond (wordBit (less w i) j) (f j) 0) g i 0 j
+      (λ q. subst (λ (j : ℕ). 0 ≡ cond (wordBit (less w i) j) (f j) 0) (sym q) (rw (less-off d) refl))
+      (λ q. sym (rw (less-other d j h q) refl))) in
+      omega (arith, e, p, there, rest, sum-put (λ a. a) 64 g i 0 (d .within))
+
+-- the code knows a middle node by its level and as a cell
+pub at-middle : {A : Type 0} (f : ℕ → ℕ → A) (l x : ℕ) → l ≡ 1 → 8 ≤ x → f 1 (8 + (x - 8)) ≡ f l x
+at-middle f l x e h = let q : 8 + (x - 8) ≡ x = omega arith in ap₂ f (sym e) q

@@ -2,7 +2,7 @@
 use mathlib.Core.Path.{_≡_, refl, sym, ap, _∙_, subst}
 use mathlib.Core.Bool.{Bool, true, false, not, cond, _&&_}
 use mathlib.Core.List.{List}
-use Prim.Native.Nat.{ℕ, zero, suc, _+_, _*_, _<_, _≤_}
+use Prim.Native.Nat.{ℕ, zero, suc, _<_, _≤_}
 use native.Mathlib.Omega.{arith}
 use lib.ListN.{length, getD, set}
 use lib.Dec.{ltb}
@@ -12,7 +12,6 @@ use Rattle.nodes.specs.State.{St}
 use Rattle.nodes.specs.Layout.{st, wordOf, kidBit, slotsLength}
 use Rattle.nodes.specs.Range.{In}
 use Rattle.nodes.specs.Walk.{below}
-use Rattle.nodes.specs.declared.walk.Below.{Below}
 use Rattle.nodes.specs.declared.walk.Below.the-variants.{Go, Stop}
 use Rattle.nodes.proofs.Places.{spread-one, word-lt}
 use Rattle.nodes.proofs.States.{st-slot, st-kid}

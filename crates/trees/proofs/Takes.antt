@@ -1,13 +1,15 @@
 -- One slot of two nodes that are joined, by the steps of the code: a use mark, a branch taken over, a slot settled. Assumes nothing.
 use mathlib.Core.Path.{_≡_, refl, sym, ap, _∙_}
 use mathlib.Core.Logic.{inl, inr}
-use mathlib.Core.Bool.{true, false}
-use mathlib.Core.List.{List}
+use mathlib.Core.Bool.{Bool, true, false}
+use mathlib.Core.List.{List, [], _∷_}
 use Prim.Native.Nat.{ℕ, _+_, _<_}
 use native.Mathlib.Omega.{arith}
 use lib.ListN.{set}
 use lib.Seq.{getD-set-other}
-use Rattle.floats.specs.Value.{far}
+use types.Run.{OneOf, miss}
+use denote.Enum.Declared.{tagOf}
+use Rattle.floats.specs.Value.{far, farWith}
 use Rattle.nodes.specs.State.{St, linked}
 use Rattle.nodes.specs.Layout.{st, countPlace, head}
 use Rattle.nodes.specs.Range.{Booked}
@@ -15,9 +17,12 @@ use Rattle.nodes.specs.Steps.{slotS}
 use Rattle.nodes.specs.Wipe.{shedM, wipeAt}
 use Rattle.nodes.proofs.Books.{part-out, part-in}
 use Rattle.nodes.proofs.Changes.{st-ext}
-use Rattle.trees.specs.Plan.{settledWord, settledOn}
-use Rattle.trees.specs.Combine.{tagS, takeChildS}
-use Rattle.trees.specs.declared.plan.Join.{Join}
+use Rattle.trees.specs.Combine.{joinO, tagS, takeChildS, takeM}
+use Rattle.trees.specs.Turn.{turnM}
+use Rattle.trees.specs.declared.take.Join.{Join}
+use Rattle.trees.specs.declared.take.Join.the-variants.{Union, Subtract, Intersect}
+use Rattle.trees.specs.declared.turn.Work.the-variants.{Flip}
+use Rattle.trees.proofs.take.Join.{the-type}
 
 pub tag-step : (n : ℕ) (bk sl mk : List ℕ) {c : ℕ} (x k : ℕ) → Booked n bk → c < n → st n sl mk (set bk (head + c) (linked x k)) ≡ tagS c x k (st n sl mk bk)
 unfolding st tagS
@@ -35,7 +40,16 @@ take-by x y k s {c} {w} e f p q r =
     r ∙ ap (slotS x k c true false) (q ∙ ap (slotS y k w false false) p)
     ∙ (λ i. slotS x k (e i) true false (slotS y k (f i) false false (tagS (e i) x k s)))
 
-pub settle-by : (go : ℕ → St → St) (n x k : ℕ) (s : St) {j i : Join} {w : ℕ} {s₁ s₂ : St} → j ≡ i → s₁ ≡ shedM go n x k s → w ≡ settledWord i → s₂ ≡ slotS x k w false (settledOn i) s₁
-    → s₂ ≡ wipeAt go n (settledWord j) (settledOn j) x k s
-settle-by go n x k s {j} {i} e p f q =
-    q ∙ (λ z. slotS x k (f z) false (settledOn i) (p z)) ∙ ap (λ (h : Join). wipeAt go n (settledWord h) (settledOn h) x k s) (sym e)
+pub settle-by : (go : ℕ → St → St) (n x k : ℕ) (s : St) {a b : Bool} {w : ℕ} {s₁ s₂ : St} → s₁ ≡ shedM go n x k s → a ≡ b → w ≡ farWith a → s₂ ≡ slotS x k w false a s₁
+    → s₂ ≡ wipeAt go n (farWith b) b x k s
+settle-by go n x k s p e f q = q ∙ (λ z. slotS x k ((f ∙ ap farWith e) z) false (e z) (p z))
+
+-- c is the cell of the branch: it is flipped once it is taken, or not
+module _ (b : ℕ) (bs : List ℕ) (n x y k : ℕ) (s : St) {c : ℕ} {r : St} (f : c ≡ s .slot y k) (p : r ≡ takeChildS x y k s) where
+  pub take-flipped : {j : Join} {t : St} → j ≡ Subtract → t ≡ turnM b bs Flip n (8 + c) r → t ≡ takeM b bs (joinO j) n x y k s
+  take-flipped e q = q ∙ (λ z. turnM b bs Flip n (8 + f z) (p z)) ∙ ap (λ (j : Join). takeM b bs (joinO j) n x y k s) (sym e)
+
+  pub take-plain : (j : Join) → OneOf (0 ∷ 2 ∷ []) (tagOf the-type j) → r ≡ takeM b bs (joinO j) n x y k s
+  take-plain Union h = p
+  take-plain Subtract h = absurd (miss (0 ∷ 2 ∷ []) 1 tt h)
+  take-plain Intersect h = p

@@ -3,8 +3,6 @@
 pub mod below;
 pub mod copy;
 pub mod leaf;
-pub mod plan;
-pub mod signs;
 pub mod slot;
 pub mod take;
 pub mod turn;

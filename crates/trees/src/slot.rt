@@ -3,7 +3,7 @@ use nodes::memory;
 use nodes::walk::Below;
 ghost use mathlib.Core.Path.{_≡_};
 ghost use mathlib.Core.List.{List};
-ghost use Prim.Native.Nat.{ℕ};
+ghost use Prim.Native.Nat.{ℕ, _<_};
 ghost use Rattle.nodes.specs.Layout.{st};
 ghost use Rattle.nodes.specs.Range.{In, Cells, Slotted, Masked};
 ghost use Rattle.nodes.specs.Walk.{below};
@@ -24,16 +24,13 @@ pub fn child(slots: &[u32], masks: &[u64], n: usize, x: usize, k: usize) -> Belo
     Below::Stop
 }
 
-// Slot k of node x of a level is neither active nor a branch. The child mask of a leaf is not looked at.
-pub fn hidden(masks: &[u64], n: usize, level: usize, x: usize, k: usize) -> bool
+// Slot k of node x, of any level above the leaves, is neither active nor a branch.
+pub fn hidden(masks: &[u64], n: usize, x: usize, k: usize) -> bool
     requires { ⌜ (Masked n (now masks)) × In n x k ⌝ }
-    ensures { λ r. ⌜ ((slots book : List ℕ) → r ≡ hiddenS (below level) (st n slots (now (masks .entry)) book) x k) ⌝ }
+    ensures { λ r. ⌜ ((slots book : List ℕ) (l : ℕ) → 0 < l → r ≡ hiddenS (below l) (st n slots (now (masks .entry)) book) x k) ⌝ }
 {
     if memory::val(masks, n, x, k) {
         return false;
-    }
-    if level == 0 {
-        return true;
     }
     !memory::kid(masks, x, k)
 }

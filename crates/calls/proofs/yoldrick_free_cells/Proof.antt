@@ -1,7 +1,8 @@
 use denote.Ref.{now}
 use borrow.Author.Needs.{needs}
 use Rattle.seats.specs.Call.{Count}
-use Rattle.pool.specs.Answers.{memOf, countOf}
+use Rattle.voxels.specs.Answers.{memOf}
+use Rattle.pool.specs.Count.{countOf}
 use Rattle.calls.specs.Forms.{countAnswerOf, countF}
 use Rattle.calls.proofs.Laws.{count-same, says-as}
 use Rattle.calls.proofs.yoldrick_free_cells.Statement.{statement}

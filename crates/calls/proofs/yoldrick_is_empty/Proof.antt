@@ -1,7 +1,7 @@
 use denote.Ref.{now}
 use borrow.Author.Needs.{needs}
 use Rattle.seats.specs.Call.{One, IsEmpty}
-use Rattle.pool.specs.Answers.{memOf, whetherOf}
+use Rattle.voxels.specs.Answers.{memOf, whetherOf}
 use Rattle.calls.specs.Forms.{truthAnswerOf, truthF}
 use Rattle.calls.proofs.Laws.{truth-same, says-as}
 use Rattle.calls.proofs.yoldrick_is_empty.Statement.{statement}

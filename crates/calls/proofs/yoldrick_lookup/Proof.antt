@@ -3,7 +3,7 @@ use denote.Ref.{now}
 use mir.Facts.{toZ-ofZ}
 use borrow.Author.Needs.{needs}
 use Rattle.seats.specs.Call.{One, Lookup}
-use Rattle.pool.specs.Answers.{memOf, foundOf}
+use Rattle.voxels.specs.Answers.{memOf, foundOf}
 use Rattle.calls.specs.Forms.{pointAt, answerOf, answerF}
 use Rattle.calls.proofs.Laws.{answer-same, says-as, voxel-same}
 use Rattle.calls.proofs.yoldrick_lookup.Statement.{statement}

@@ -3,7 +3,7 @@ use denote.Ref.{now}
 use mir.Facts.{toZ-ofZ}
 use borrow.Author.Needs.{needs}
 use Rattle.seats.specs.Call.{One, Sign}
-use Rattle.pool.specs.Answers.{memOf, whetherOf}
+use Rattle.voxels.specs.Answers.{memOf, whetherOf}
 use Rattle.calls.specs.Forms.{pointAt, truthAnswerOf, truthF}
 use Rattle.calls.proofs.Laws.{truth-same, says-as, voxel-same}
 use Rattle.calls.proofs.yoldrick_sign.Statement.{statement}

@@ -3,7 +3,7 @@ use native.Mathlib.Omega.{arith}
 use lib.Ieee.{ofBits}
 use borrow.Author.Needs.{needs}
 use Rattle.floats.specs.Value.{isFinite}
-use Rattle.pool.specs.Answers.{memOf}
+use Rattle.voxels.specs.Answers.{memOf}
 use Rattle.demands.proofs.Witness.{ears-run}
 use Rattle.demands.proofs.ears.Statement.{statement}
 use Rattle.demands.proofs.ears.Tie as tie

@@ -4,9 +4,6 @@ use lib.ListN.{length}
 use borrow.Author.Needs.{needs}
 use Rattle.replay.proofs.all.Statement.{statement}
 use Rattle.replay.proofs.all.Tie as tie
-use Rattle.replay.proofs.all.Reads as reads
-use Rattle.replay.proofs.all.Lts as lts
-use Rattle.replay.proofs.some.Reads as some-reads
 
 abbrev Inv-loop : tie.InvT-loop
 Inv-loop fd slots₀ masks₀ book₀ t₀ turns₀ slots masks book t turns = (turns ≤ 1000000) × ((length slots ≡ length slots₀) × ((length masks ≡ length masks₀) × (length book ≡ length book₀)))

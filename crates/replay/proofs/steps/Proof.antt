@@ -4,9 +4,6 @@ use lib.ListN.{length}
 use borrow.Author.Needs.{needs}
 use Rattle.replay.proofs.steps.Statement.{statement}
 use Rattle.replay.proofs.steps.Tie as tie
-use Rattle.replay.proofs.steps.Reads as reads
-use Rattle.replay.proofs.steps.Lts as lts
-use Rattle.replay.proofs.step.Reads as step-reads
 
 abbrev Inv-loop : tie.InvT-loop
 Inv-loop slots₀ masks₀ book₀ b n bad₀ i₀ slots masks book bad i = (i ≤ n) × ((bad ≤ i) × ((length slots ≡ length slots₀) × ((length masks ≡ length masks₀) × (length book ≡ length book₀))))

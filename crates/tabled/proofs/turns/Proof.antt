@@ -4,9 +4,6 @@ use lib.ListN.{length}
 use borrow.Author.Needs.{needs}
 use Rattle.tabled.proofs.turns.Statement.{statement}
 use Rattle.tabled.proofs.turns.Tie as tie
-use Rattle.tabled.proofs.turns.Reads as reads
-use Rattle.tabled.proofs.turns.Lts as lts
-use Rattle.tabled.proofs.turn.Reads as turn-reads
 
 abbrev Inv-loop : tie.InvT-loop
 Inv-loop slots₀ masks₀ book₀ good₀ i₀ slots masks book good i = (i ≤ 100) × ((good ≤ i) × ((length slots ≡ length slots₀) × ((length masks ≡ length masks₀) × (length book ≡ length book₀))))

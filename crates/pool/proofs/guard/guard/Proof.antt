@@ -1,8 +1,8 @@
 use denote.Ref.{now}
 use borrow.Author.Tests.{not-true, not-false}
-use Rattle.pool.specs.Answers.{memOf}
+use Rattle.voxels.specs.Answers.{memOf}
 use Rattle.pool.proofs.Guards.{guard-1, guard-given, guard-5, guard-0}
-use Rattle.pool.proofs.Promises.{is-sized}
+use Rattle.voxels.proofs.Promises.{is-sized}
 use borrow.Author.Needs.{needs}
 use Rattle.pool.proofs.guard.guard.Statement.{statement}
 use Rattle.pool.proofs.guard.guard.Tie as tie

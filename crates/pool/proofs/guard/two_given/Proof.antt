@@ -1,4 +1,3 @@
-use mathlib.Core.Path.{refl, sym}
 use Rattle.pool.proofs.Guards.{two-first, two-second, two-equal, two-good}
 use Rattle.pool.proofs.guard.two_given.Statement.{statement}
 use Rattle.pool.proofs.guard.two_given.Tie as tie

@@ -1,7 +1,7 @@
 use denote.Ref.{now}
 use Rattle.grid.specs.Combine.{union}
 use Rattle.seats.specs.Call.{Combine}
-use Rattle.pool.specs.Answers.{memOf}
+use Rattle.voxels.specs.Answers.{memOf}
 use Rattle.pool.proofs.Pairs.{pair-first, pair-fits, pair-seats, combine-filled}
 use borrow.Author.Needs.{needs}
 use Rattle.pool.proofs.pair.combine_barred.Statement.{statement}

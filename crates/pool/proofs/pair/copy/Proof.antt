@@ -1,6 +1,7 @@
 use Rattle.seats.specs.Call.{Two, Copy}
-use Rattle.pool.specs.Answers.{memOf, codeOf}
-use Rattle.pool.proofs.Guards.{blocked-says, served-sized, none-served}
+use Rattle.voxels.specs.Answers.{memOf, codeOf}
+use Rattle.voxels.proofs.Promises.{blocked-says}
+use Rattle.pool.proofs.Guards.{served-sized, none-served}
 use Rattle.pool.proofs.Pairs.{copy-low, copy-says}
 use borrow.Author.Needs.{needs}
 use Rattle.pool.proofs.pair.copy.Statement.{statement}

@@ -1,6 +1,6 @@
 use Rattle.seats.specs.Call.{Copy}
 use denote.Ref.{now}
-use Rattle.pool.specs.Answers.{memOf}
+use Rattle.voxels.specs.Answers.{memOf}
 use Rattle.pool.proofs.Pairs.{pair-first, pair-fits, pair-seats, copy-room}
 use borrow.Author.Needs.{needs}
 use Rattle.pool.proofs.pair.copy_barred.Statement.{statement}

@@ -1,7 +1,7 @@
 use denote.Ref.{now}
 use native.Mathlib.Omega.{arith}
 use Rattle.means.proofs.Memory.{fitting}
-use Rattle.pool.specs.Answers.{memOf}
+use Rattle.voxels.specs.Answers.{memOf}
 use Rattle.pool.proofs.Pairs.{filled-first, filled-second, filled-7, filled-last}
 use borrow.Author.Needs.{needs}
 use Rattle.pool.proofs.pair.filled.Statement.{statement}

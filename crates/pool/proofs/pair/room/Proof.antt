@@ -4,10 +4,10 @@ use denote.Ref.{now}
 use borrow.Author.Tests.{not-true, not-false}
 use Rattle.nodes.proofs.Paths.{top-stands}
 use Rattle.nodes.proofs.States.{cells-of}
-use Rattle.pool.specs.Answers.{memOf}
-use Rattle.pool.proofs.Book.{st-count}
+use Rattle.voxels.specs.Answers.{memOf}
+use Rattle.sound.proofs.Book.{st-count}
 use Rattle.pool.proofs.Pairs.{room-8, room-9, room-0}
-use Rattle.pool.proofs.Promises.{counted-some, is-sized}
+use Rattle.voxels.proofs.Promises.{counted-some, is-sized}
 use borrow.Author.Needs.{needs}
 use Rattle.pool.proofs.pair.room.Statement.{statement}
 use Rattle.pool.proofs.pair.room.Tie as tie

@@ -1,5 +1,5 @@
 use denote.Ref.{now}
-use Rattle.pool.specs.Answers.{memOf}
+use Rattle.voxels.specs.Answers.{memOf}
 use Rattle.pool.proofs.Tasks.{barred-first, barred-fits, barred-seat, barred-fill, barred-clear, barred-turn, barred-signs}
 use borrow.Author.Needs.{needs}
 use Rattle.pool.proofs.seat.barred.Statement.{statement}

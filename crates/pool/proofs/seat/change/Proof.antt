@@ -1,7 +1,8 @@
 use Rattle.seats.specs.Call.{One}
-use Rattle.pool.specs.Answers.{memOf, codeOf}
+use Rattle.voxels.specs.Answers.{memOf, codeOf}
 use Rattle.pool.specs.Task.{actOf}
-use Rattle.pool.proofs.Guards.{blocked-says, served-seat, served-sized, none-served}
+use Rattle.voxels.proofs.Promises.{blocked-says}
+use Rattle.pool.proofs.Guards.{served-seat, served-sized, none-served}
 use Rattle.pool.proofs.Tasks.{change-says}
 use borrow.Author.Needs.{needs}
 use Rattle.pool.proofs.seat.change.Statement.{statement}

@@ -1,6 +1,6 @@
 use mathlib.Core.Path.{sym}
 use Rattle.nodes.specs.Layout.{st}
-use Rattle.pool.proofs.Book.{st-mark}
+use Rattle.sound.proofs.Book.{st-mark}
 use Rattle.pool.proofs.Tasks.{change-by}
 use borrow.Author.Needs.{needs}
 use Rattle.pool.proofs.seat.settle.Statement.{statement}

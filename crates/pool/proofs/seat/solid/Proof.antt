@@ -1,8 +1,8 @@
 use denote.Ref.{now}
 use Rattle.nodes.proofs.Paths.{top-stands}
 use Rattle.nodes.proofs.States.{cells-of}
-use Rattle.pool.specs.Answers.{memOf}
-use Rattle.pool.proofs.Promises.{counted-some, is-sized}
+use Rattle.voxels.specs.Answers.{memOf}
+use Rattle.voxels.proofs.Promises.{counted-some, is-sized}
 use Rattle.pool.proofs.Tasks.{solid-7, solid-0}
 use borrow.Author.Needs.{needs}
 use Rattle.pool.proofs.seat.solid.Statement.{statement}

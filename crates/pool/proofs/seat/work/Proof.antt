@@ -10,7 +10,7 @@ enum-known-task : tie.Need-enum-known-task
 enum-known-task c = search needs
 
 wipe-requires : tie.Need-wipe-requires
-wipe-requires c κs = let z = c .before .before .before .before .before .before .before .before .before .pre in (z .0, top-stands _ _ (z .1))
+wipe-requires c κs = let z = c .before .before .before .before .before .before .before .before .before .pre in (z .0, z .1)
 
 same-length : tie.Need-same-length
 same-length c = search needs
@@ -31,7 +31,7 @@ far-word-requires : tie.Need-far-word-requires
 far-word-requires c κs = search needs
 
 wipe-requires-2 : tie.Need-wipe-requires-2
-wipe-requires-2 c κs = let z = c .before .before .before .before .before .before .before .before .before .pre in (z .0, top-stands _ _ (z .1))
+wipe-requires-2 c κs = let z = c .before .before .before .before .before .before .before .before .before .pre in (z .0, z .1)
 
 same-length-4 : tie.Need-same-length-4
 same-length-4 c = search needs

@@ -2,8 +2,10 @@ use denote.Ref.{now}
 use native.Mathlib.Omega.{arith}
 use Rattle.seats.specs.Call.{Count}
 use Rattle.means.proofs.Memory.{fitting}
-use Rattle.pool.specs.Answers.{memOf, countOf}
-use Rattle.pool.proofs.Guards.{blocked-says, none-served, clean-fits}
+use Rattle.voxels.specs.Answers.{memOf}
+use Rattle.pool.specs.Count.{countOf}
+use Rattle.voxels.proofs.Promises.{blocked-says}
+use Rattle.pool.proofs.Guards.{none-served, clean-fits}
 use Rattle.pool.proofs.WholePromises.{count-says, count-barred}
 use mathlib.Core.Path.{refl, sym, _∙_}
 use borrow.Author.Needs.{needs}

@@ -1,7 +1,8 @@
 use denote.Ref.{now}
 use Rattle.seats.specs.Call.{One, IsEmpty}
-use Rattle.pool.specs.Answers.{memOf, whetherOf}
-use Rattle.pool.proofs.Guards.{blocked-says, none-served, served-seat, served-sized}
+use Rattle.voxels.specs.Answers.{memOf, whetherOf}
+use Rattle.voxels.proofs.Promises.{blocked-says}
+use Rattle.pool.proofs.Guards.{none-served, served-seat, served-sized}
 use Rattle.pool.proofs.WholePromises.{empty-says, empty-barred}
 use borrow.Author.Needs.{needs}
 use Rattle.pool.proofs.whole.is_empty.Statement.{statement}

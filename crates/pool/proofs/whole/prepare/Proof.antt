@@ -1,6 +1,6 @@
 use Rattle.seats.specs.Call.{Prepare}
-use Rattle.pool.specs.Answers.{memOf, codeOf}
-use Rattle.pool.proofs.Promises.{counted-1, is-sized}
+use Rattle.voxels.specs.Answers.{memOf, codeOf}
+use Rattle.voxels.proofs.Promises.{counted-1, is-sized}
 use Rattle.pool.proofs.WholePromises.{prepare-says}
 use borrow.Author.Needs.{needs}
 use Rattle.pool.proofs.whole.prepare.Statement.{statement}

@@ -7,9 +7,11 @@ use borrow.Author.Count.{below-none, below-more}
 use borrow.Fn.Kinds.{In}
 use borrow.Fn.PlainCycle.{Measures, is, falls, and}
 use Rattle.nodes.specs.Layout.{st}
-use Rattle.nodes.proofs.Paths.{slot-of, stands-below}
+use Rattle.nodes.proofs.Paths.{slot-of, low-cell, stands-below}
+use Rattle.nodes.specs.Walk.{branching, below}
+use Rattle.trees.specs.Below.{hollowM}
 use Rattle.trees.proofs.Slots.{child-go}
-use Rattle.trees.proofs.Counts.{NoHollow, hollow-stop, hollow-bare, hollow-down, hollow-leaf, hollow-found, hollow-none}
+use Rattle.trees.proofs.Counts.{at-middle, NoHollow, hollow-stop, hollow-bare, hollow-down, hollow-leaf, hollow-found, hollow-none}
 use Rattle.trees.proofs.below.hollow.Reads as hollow
 use Rattle.trees.proofs.below.hollow.Kinds as hollow-kinds
 use Rattle.trees.proofs.below.+hollow+hollow_at.Lts-hollow as hollow-lts
@@ -19,6 +21,7 @@ use Rattle.trees.proofs.below.+hollow+hollow_at.Lts-hollow_at as hollow
 use Rattle.nodes.proofs.geometry.size_in.Reads as size-in-reads
 use Rattle.nodes.proofs.remove.bare.Reads as bare-reads
 use Rattle.trees.proofs.slot.child.Reads as child-reads
+use Rattle.trees.proofs.below.hollow_leaves.Reads as hollow-leaves-reads
 use Rattle.trees.proofs.below.+hollow+hollow_at.{statement}
 use Rattle.trees.proofs.below.+hollow+hollow_at.Tie.{close}
 
@@ -41,7 +44,7 @@ abbrev hollow-at-below : ℕ → In 2 hollow-at-kinds.ps
 hollow-at-below t = and 2 hollow-at-kinds.ps (falls 2 hollow-at-kinds.ps _<_ μ-hollow-at t) hollow-at′.Pre
 
 abbrev hollow-claims : ℕ → hollow-lts.Claims
-hollow-claims t = (size-in-reads.Asked, size-in-reads.Learnt, hollow-at-below t, hollow-at′.Post)
+hollow-claims t = (hollow-leaves-reads.Asked, hollow-leaves-reads.Learnt, size-in-reads.Asked, size-in-reads.Learnt, hollow-at-below t, hollow-at′.Post)
 
 abbrev hollow-at-claims : ℕ → hollow-at-lts.Claims
 hollow-at-claims t = (child-reads.Asked, child-reads.Learnt, bare-reads.Asked, bare-reads.Learnt, hollow-below t, hollow.Post)
@@ -55,17 +58,26 @@ hollow-μ-loop slots masks n level x m k₀ k = m - k
 hollow-returns : (t : ℕ) → hollow-lts.Need-returns (hollow-claims t) (hollow-at t) hollow.Post hollow-Inv-loop hollow-μ-loop
 hollow-returns t c = λ book. hollow-leaf _ (c .before .before .before .args .level) _ _ (c .if1 .taken)
 
-hollow-size-in-requires : (t : ℕ) → hollow-lts.Need-size-in-requires (hollow-claims t) (hollow-at t) hollow.Post hollow-Inv-loop hollow-μ-loop
-hollow-size-in-requires t c κs = c .before .before .before .pre .1 .1 .known
+hollow-sub-hollow-leaves : (t : ℕ) → hollow-lts.Need-sub-hollow-leaves (hollow-claims t) (hollow-at t) hollow.Post hollow-Inv-loop hollow-μ-loop
+hollow-sub-hollow-leaves t c = low-cell (c .before .before .before .before .pre .1 .1) (omega (arith, c .if2 .taken))
 
-hollow-loop-holds : (t : ℕ) → hollow-lts.Need-loop-holds (hollow-claims t) (hollow-at t) hollow.Post hollow-Inv-loop hollow-μ-loop
-hollow-loop-holds t c = let a = c .before .before .before .before .args in (omega arith, λ book. below-none (NoHollow (a .n) (a .level - 1) (st (a .n) (a .slots .now) (a .masks .now) book) (a .x)))
-
-hollow-hollow-at-requires : (t : ℕ) → hollow-lts.Need-hollow-at-requires (hollow-claims t) (hollow-at t) hollow.Post hollow-Inv-loop hollow-μ-loop
-hollow-hollow-at-requires t c κs = let h = c .before .before .before .if1 .left in (omega (arith, c .before .before .before .before .before .before .pre .0), (c .before .before .before .before .before .before .pre .1 .0, c .before .before .before .before .before .before .pre .1 .1, slot-of (c .before .before .before .before .before .before .pre .1 .1) (c .before .before .size-in .ensures) (c .loop-test .taken), omega arith))
+hollow-hollow-leaves-requires : (t : ℕ) → hollow-lts.Need-hollow-leaves-requires (hollow-claims t) (hollow-at t) hollow.Post hollow-Inv-loop hollow-μ-loop
+hollow-hollow-leaves-requires t c κs = let p = c .before .before .before .before .pre .1 in (p .0, omega (arith, p .1 .node, low-cell (p .1) (omega (arith, c .if2 .taken))))
 
 hollow-returns-2 : (t : ℕ) → hollow-lts.Need-returns-2 (hollow-claims t) (hollow-at t) hollow.Post hollow-Inv-loop hollow-μ-loop
-hollow-returns-2 t c = λ book. hollow-found _ (c .before .before .before .before .before .before .before .before .args .level) _ _ (c .before .before .before .before .before .if1 .left) (c .before .before .before .before .size-in .ensures) (c .before .before .loop-test .taken) (c .before .hollow-at .ensures book) (c .if2 .taken)
+hollow-returns-2 t c = let s = c .before .before .before .before .before in λ book. c .hollow-leaves .ensures book ∙ at-middle (λ (l x : ℕ). hollowM (branching l) (below l) (s .args .n) (st (s .args .n) (s .args .slots .now) (s .args .masks .now) book) x) _ _ (c .before .if2 .taken) (low-cell (s .pre .1 .1) (omega (arith, c .before .if2 .taken)))
+
+hollow-size-in-requires : (t : ℕ) → hollow-lts.Need-size-in-requires (hollow-claims t) (hollow-at t) hollow.Post hollow-Inv-loop hollow-μ-loop
+hollow-size-in-requires t c κs = c .before .before .before .before .pre .1 .1 .known
+
+hollow-loop-holds : (t : ℕ) → hollow-lts.Need-loop-holds (hollow-claims t) (hollow-at t) hollow.Post hollow-Inv-loop hollow-μ-loop
+hollow-loop-holds t c = let a = c .before .before .before .before .before .args in (omega arith, λ book. below-none (NoHollow (a .n) (a .level - 1) (st (a .n) (a .slots .now) (a .masks .now) book) (a .x)))
+
+hollow-hollow-at-requires : (t : ℕ) → hollow-lts.Need-hollow-at-requires (hollow-claims t) (hollow-at t) hollow.Post hollow-Inv-loop hollow-μ-loop
+hollow-hollow-at-requires t c κs = let h = c .before .before .before .before .if1 .left in (omega (arith, c .before .before .before .before .before .before .before .pre .0), (c .before .before .before .before .before .before .before .pre .1 .0, c .before .before .before .before .before .before .before .pre .1 .1, slot-of (c .before .before .before .before .before .before .before .pre .1 .1) (c .before .before .size-in .ensures) (c .loop-test .taken), omega arith))
+
+hollow-returns-3 : (t : ℕ) → hollow-lts.Need-returns-3 (hollow-claims t) (hollow-at t) hollow.Post hollow-Inv-loop hollow-μ-loop
+hollow-returns-3 t c = λ book. hollow-found _ (c .before .before .before .before .before .before .before .before .before .args .level) _ _ (c .before .before .before .before .before .before .if1 .left) (c .before .before .before .before .size-in .ensures) (c .before .before .loop-test .taken) (c .before .hollow-at .ensures book) (c .if3 .taken)
 
 hollow-add-k : (t : ℕ) → hollow-lts.Need-add-k (hollow-claims t) (hollow-at t) hollow.Post hollow-Inv-loop hollow-μ-loop
 hollow-add-k t c = omega (arith, c .before .before .loop-test .taken)
@@ -74,10 +86,10 @@ hollow-loop-less : (t : ℕ) → hollow-lts.Need-loop-less (hollow-claims t) (ho
 hollow-loop-less t c = omega (arith, c .before .before .loop-test .taken)
 
 hollow-loop-again : (t : ℕ) → hollow-lts.Need-loop-again (hollow-claims t) (hollow-at t) hollow.Post hollow-Inv-loop hollow-μ-loop
-hollow-loop-again t c = let a = c .before .before .before .before .before .before .before .before .args in (omega (arith, c .before .before .loop-test .taken), λ book. below-more (NoHollow (a .n) (a .level - 1) (st (a .n) (a .slots .now) (a .masks .now) book) (a .x)) (c .before .before .before .loop .k) (c .before .before .before .loop .inv .1 book) (sym (c .before .hollow-at .ensures book) ∙ c .if2 .left))
+hollow-loop-again t c = let a = c .before .before .before .before .before .before .before .before .before .args in (omega (arith, c .before .before .loop-test .taken), λ book. below-more (NoHollow (a .n) (a .level - 1) (st (a .n) (a .slots .now) (a .masks .now) book) (a .x)) (c .before .before .before .loop .k) (c .before .before .before .loop .inv .1 book) (sym (c .before .hollow-at .ensures book) ∙ c .if3 .left))
 
-hollow-returns-3 : (t : ℕ) → hollow-lts.Need-returns-3 (hollow-claims t) (hollow-at t) hollow.Post hollow-Inv-loop hollow-μ-loop
-hollow-returns-3 t c = λ book. hollow-none _ (c .before .before .before .before .before .before .args .level) _ _ (c .before .before .before .if1 .left) (c .before .before .size-in .ensures) (c .loop-test .left) (c .before .loop .inv .1 book)
+hollow-returns-4 : (t : ℕ) → hollow-lts.Need-returns-4 (hollow-claims t) (hollow-at t) hollow.Post hollow-Inv-loop hollow-μ-loop
+hollow-returns-4 t c = λ book. hollow-none _ (c .before .before .before .before .before .before .before .args .level) _ _ (c .before .before .before .before .if1 .left) (c .before .before .size-in .ensures) (c .loop-test .left) (c .before .loop .inv .1 book)
 
 hollow-at-child-requires : (t : ℕ) → hollow-at-lts.Need-child-requires (hollow-at-claims t) (hollow-at-at t) hollow-at′.Post
 hollow-at-child-requires t c κs = (c .before .before .pre .1 .0, c .before .before .pre .1 .2)
@@ -119,14 +131,17 @@ pub +hollow+hollow-at-spec : {M : Type 1} → statement M
     hollow-Inv-loop
     hollow-μ-loop
     (hollow-returns t)
+    (hollow-sub-hollow-leaves t)
+    (hollow-hollow-leaves-requires t)
+    (hollow-returns-2 t)
     (hollow-size-in-requires t)
     (hollow-loop-holds t)
     (hollow-hollow-at-requires t)
-    (hollow-returns-2 t)
+    (hollow-returns-3 t)
     (hollow-add-k t)
     (hollow-loop-less t)
     (hollow-loop-again t)
-    (hollow-returns-3 t))
+    (hollow-returns-4 t))
     λ t. hollow-at-lts.spec (hollow-at-claims t)
     (hollow-at-at t)
     hollow-at′.Post

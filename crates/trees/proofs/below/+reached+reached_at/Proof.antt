@@ -8,9 +8,11 @@ use borrow.Fn.PlainCycle.{Measures, is, falls, and}
 use Rattle.grid.specs.Node.{sum}
 use Rattle.nodes.specs.Layout.{st}
 use Rattle.nodes.proofs.Places.{wide-most}
-use Rattle.nodes.proofs.Paths.{slot-of, stands-below}
+use Rattle.nodes.proofs.Paths.{slot-of, low-cell, stands-below}
+use Rattle.nodes.specs.Walk.{branching, below}
+use Rattle.trees.specs.Below.{reachedM}
 use Rattle.trees.proofs.Slots.{child-go}
-use Rattle.trees.proofs.Counts.{cellsBelow, reached-stop, reached-down, reached-leaf, reached-all, reached-few, sum-none, sum-more}
+use Rattle.trees.proofs.Counts.{at-middle, cellsBelow, reached-stop, reached-down, reached-leaf, reached-all, reached-few, sum-none, sum-more}
 use Rattle.trees.proofs.below.reached.Reads as reached
 use Rattle.trees.proofs.below.reached.Kinds as reached-kinds
 use Rattle.trees.proofs.below.+reached+reached_at.Lts-reached as reached-lts
@@ -19,6 +21,7 @@ use Rattle.trees.proofs.below.reached_at.Kinds as reached-at-kinds
 use Rattle.trees.proofs.below.+reached+reached_at.Lts-reached_at as reached-at-lts
 use Rattle.nodes.proofs.geometry.size_in.Reads as size-in-reads
 use Rattle.trees.proofs.slot.child.Reads as child-reads
+use Rattle.trees.proofs.below.reached_leaves.Reads as reached-leaves-reads
 use Rattle.trees.proofs.below.+reached+reached_at.{statement}
 use Rattle.trees.proofs.below.+reached+reached_at.Tie.{close}
 
@@ -41,7 +44,7 @@ abbrev reached-at-below : ℕ → In 2 reached-at-kinds.ps
 reached-at-below t = and 2 reached-at-kinds.ps (falls 2 reached-at-kinds.ps _<_ μ-reached-at t) reached-at′.Pre
 
 abbrev reached-claims : ℕ → reached-lts.Claims
-reached-claims t = (size-in-reads.Asked, size-in-reads.Learnt, reached-at-below t, reached-at′.Post)
+reached-claims t = (reached-leaves-reads.Asked, reached-leaves-reads.Learnt, size-in-reads.Asked, size-in-reads.Learnt, reached-at-below t, reached-at′.Post)
 
 abbrev reached-at-claims : ℕ → reached-at-lts.Claims
 reached-at-claims t = (child-reads.Asked, child-reads.Learnt, reached-below t, reached.Post)
@@ -55,17 +58,26 @@ reached-μ-loop slots masks n level x m cells₀ k₀ cells k = m - k
 reached-returns : (t : ℕ) → reached-lts.Need-returns (reached-claims t) (reached-at t) reached.Post reached-Inv-loop reached-μ-loop
 reached-returns t c = λ book. reached-leaf _ (c .before .before .before .args .level) _ _ (c .if1 .taken)
 
+reached-sub-reached-leaves : (t : ℕ) → reached-lts.Need-sub-reached-leaves (reached-claims t) (reached-at t) reached.Post reached-Inv-loop reached-μ-loop
+reached-sub-reached-leaves t c = low-cell (c .before .before .before .before .pre .1 .1) (omega (arith, c .if2 .taken))
+
+reached-reached-leaves-requires : (t : ℕ) → reached-lts.Need-reached-leaves-requires (reached-claims t) (reached-at t) reached.Post reached-Inv-loop reached-μ-loop
+reached-reached-leaves-requires t c κs = let p = c .before .before .before .before .pre .1 in (p .0, omega (arith, p .1 .node, low-cell (p .1) (omega (arith, c .if2 .taken))))
+
+reached-returns-2 : (t : ℕ) → reached-lts.Need-returns-2 (reached-claims t) (reached-at t) reached.Post reached-Inv-loop reached-μ-loop
+reached-returns-2 t c = let s = c .before .before .before .before .before in λ book. c .reached-leaves .ensures book ∙ at-middle (λ (l x : ℕ). reachedM (branching l) (below l) (s .args .n) (st (s .args .n) (s .args .slots .now) (s .args .masks .now) book) x) _ _ (c .before .if2 .taken) (low-cell (s .pre .1 .1) (omega (arith, c .before .if2 .taken)))
+
 reached-size-in-requires : (t : ℕ) → reached-lts.Need-size-in-requires (reached-claims t) (reached-at t) reached.Post reached-Inv-loop reached-μ-loop
-reached-size-in-requires t c κs = c .before .before .before .pre .1 .1 .known
+reached-size-in-requires t c κs = c .before .before .before .before .pre .1 .1 .known
 
 reached-loop-holds : (t : ℕ) → reached-lts.Need-loop-holds (reached-claims t) (reached-at t) reached.Post reached-Inv-loop reached-μ-loop
 reached-loop-holds t c = (omega arith, omega arith, λ book. sum-none _)
 
 reached-reached-at-requires : (t : ℕ) → reached-lts.Need-reached-at-requires (reached-claims t) (reached-at t) reached.Post reached-Inv-loop reached-μ-loop
-reached-reached-at-requires t c κs = let h = c .before .before .before .if1 .left in (omega (arith, c .before .before .before .before .before .before .pre .0), (c .before .before .before .before .before .before .pre .1 .0, c .before .before .before .before .before .before .pre .1 .1, slot-of (c .before .before .before .before .before .before .pre .1 .1) (c .before .before .size-in .ensures) (c .loop-test .taken), omega arith))
+reached-reached-at-requires t c κs = let h = c .before .before .before .before .if1 .left in (omega (arith, c .before .before .before .before .before .before .before .pre .0), (c .before .before .before .before .before .before .before .pre .1 .0, c .before .before .before .before .before .before .before .pre .1 .1, slot-of (c .before .before .before .before .before .before .before .pre .1 .1) (c .before .before .size-in .ensures) (c .loop-test .taken), omega arith))
 
 reached-add-cells : (t : ℕ) → reached-lts.Need-add-cells (reached-claims t) (reached-at t) reached.Post reached-Inv-loop reached-μ-loop
-reached-add-cells t c = omega (arith, c .reached-at .ensures .0, c .before .loop-test .taken, c .before .before .loop .inv .1, c .before .before .before .size-in .ensures, c .before .before .before .before .before .before .before .pre .1 .1 .slots, wide-most (c .before .before .before .before .before .before .before .args .x))
+reached-add-cells t c = omega (arith, c .reached-at .ensures .0, c .before .loop-test .taken, c .before .before .loop .inv .1, c .before .before .before .size-in .ensures, c .before .before .before .before .before .before .before .before .pre .1 .1 .slots, wide-most (c .before .before .before .before .before .before .before .before .args .x))
 
 reached-add-k : (t : ℕ) → reached-lts.Need-add-k (reached-claims t) (reached-at t) reached.Post reached-Inv-loop reached-μ-loop
 reached-add-k t c = omega (arith, c .before .loop-test .taken)
@@ -76,8 +88,8 @@ reached-loop-less t c = omega (arith, c .before .loop-test .taken)
 reached-loop-again : (t : ℕ) → reached-lts.Need-loop-again (reached-claims t) (reached-at t) reached.Post reached-Inv-loop reached-μ-loop
 reached-loop-again t c = (omega (arith, c .before .loop-test .taken), omega (arith, c .before .before .loop .inv .1, c .reached-at .ensures .0), λ book. sum-more _ _ (c .before .before .loop .inv .2 book) (c .reached-at .ensures .1 book))
 
-reached-returns-2 : (t : ℕ) → reached-lts.Need-returns-2 (reached-claims t) (reached-at t) reached.Post reached-Inv-loop reached-μ-loop
-reached-returns-2 t c = λ book. reached-all _ (c .before .before .before .before .before .before .args .level) _ _ (c .before .before .before .if1 .left) (c .before .before .size-in .ensures) (omega (arith, c .loop-test .left, c .before .loop .inv .0)) (c .before .loop .inv .2 book)
+reached-returns-3 : (t : ℕ) → reached-lts.Need-returns-3 (reached-claims t) (reached-at t) reached.Post reached-Inv-loop reached-μ-loop
+reached-returns-3 t c = λ book. reached-all _ (c .before .before .before .before .before .before .before .args .level) _ _ (c .before .before .before .before .if1 .left) (c .before .before .size-in .ensures) (omega (arith, c .loop-test .left, c .before .loop .inv .0)) (c .before .loop .inv .2 book)
 
 reached-at-child-requires : (t : ℕ) → reached-at-lts.Need-child-requires (reached-at-claims t) (reached-at-at t) reached-at′.Post
 reached-at-child-requires t c κs = (c .before .before .pre .1 .0, c .before .before .pre .1 .2)
@@ -113,6 +125,9 @@ pub +reached+reached-at-spec : {M : Type 1} → statement M
     reached-Inv-loop
     reached-μ-loop
     (reached-returns t)
+    (reached-sub-reached-leaves t)
+    (reached-reached-leaves-requires t)
+    (reached-returns-2 t)
     (reached-size-in-requires t)
     (reached-loop-holds t)
     (reached-reached-at-requires t)
@@ -120,7 +135,7 @@ pub +reached+reached-at-spec : {M : Type 1} → statement M
     (reached-add-k t)
     (reached-loop-less t)
     (reached-loop-again t)
-    (reached-returns-2 t))
+    (reached-returns-3 t))
     λ t. reached-at-lts.spec (reached-at-claims t)
     (reached-at-at t)
     reached-at′.Post

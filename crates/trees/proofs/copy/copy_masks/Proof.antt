@@ -17,20 +17,17 @@ mul-values c = search needs
 slice-read-values : tie.Need-slice-read-values
 slice-read-values c = search needs
 
-add-masks : tie.Need-add-masks
-add-masks c = search needs
-
 mul-masks : tie.Need-mul-masks
 mul-masks c = search needs
 
 slice-write-masks : tie.Need-slice-write-masks
 slice-write-masks c = search needs
 
+add-masks : tie.Need-add-masks
+add-masks c = search needs
+
 add-masks-2 : tie.Need-add-masks-2
 add-masks-2 c = search needs
-
-add-masks-3 : tie.Need-add-masks-3
-add-masks-3 c = search needs
 
 mul-masks-2 : tie.Need-mul-masks-2
 mul-masks-2 c = search needs
@@ -52,11 +49,10 @@ copy-masks-spec =
     add-values-2
     mul-values
     slice-read-values
-    add-masks
     mul-masks
     slice-write-masks
+    add-masks
     add-masks-2
-    add-masks-3
     mul-masks-2
     slice-write-masks-2
     same-length

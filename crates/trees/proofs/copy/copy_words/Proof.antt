@@ -6,22 +6,16 @@ use Rattle.trees.proofs.copy.copy_words.Statement.{statement}
 use Rattle.trees.proofs.copy.copy_words.Tie as tie
 
 abbrev Inv-loop : tie.InvT-loop
-Inv-loop slots₀ c d from to i₀ slots i = (i ≤ 64) × Given (64 + d) (λ r. getD slots₀ (64 * (64 + c) + r) 0) slots₀ slots i
+Inv-loop slots₀ g h from to i₀ slots i = (i ≤ 64) × Given h (λ r. getD slots₀ (64 * g + r) 0) slots₀ slots i
 
 abbrev μ-loop : tie.MeasureT-loop
-μ-loop slots₀ c d from to i₀ slots i = 64 - i
+μ-loop slots₀ g h from to i₀ slots i = 64 - i
 
 mul-from : tie.Need-mul-from Inv-loop μ-loop
 mul-from c = omega arith
 
-add-from : tie.Need-add-from Inv-loop μ-loop
-add-from c = omega arith
-
 mul-to : tie.Need-mul-to Inv-loop μ-loop
 mul-to c = omega arith
-
-add-to : tie.Need-add-to Inv-loop μ-loop
-add-to c = omega arith
 
 loop-holds : tie.Need-loop-holds Inv-loop μ-loop
 loop-holds c = (omega arith, given-none _ _ _)
@@ -66,9 +60,7 @@ copy-words-spec =
     Inv-loop
     μ-loop
     mul-from
-    add-from
     mul-to
-    add-to
     loop-holds
     add-slots
     mul-slots

@@ -3,14 +3,15 @@ use Prim.Native.Nat.{_+_, _-_, _*_, _≤_}
 use native.Mathlib.Omega.{arith}
 use lib.ListN.{getD}
 use Rattle.floats.specs.Value.{isFinite}
-use Rattle.trees.specs.Combine.{joinW}
+use Rattle.grid.specs.Combine.{joined}
+use Rattle.trees.specs.Combine.{joinO}
 use Rattle.trees.proofs.Copies.{Given, given-none, given-left, given-all}
 use Rattle.trees.proofs.Joins.{joined-more}
 use Rattle.trees.proofs.leaf.join_values.Statement.{statement}
 use Rattle.trees.proofs.leaf.join_values.Tie as tie
 
 abbrev Inv-loop : tie.InvT-loop
-Inv-loop slots₀ c d join a b i₀ slots i = (i ≤ 64) × Given (64 + c) (λ r. joinW join (getD slots₀ (64 * (64 + c) + r) 0) (getD slots₀ (64 * (64 + d) + r) 0)) slots₀ slots i
+Inv-loop slots₀ c d join a b i₀ slots i = (i ≤ 64) × Given (64 + c) (λ r. joined (joinO join) (getD slots₀ (64 * (64 + c) + r) 0) (getD slots₀ (64 * (64 + d) + r) 0)) slots₀ slots i
 
 abbrev μ-loop : tie.MeasureT-loop
 μ-loop slots₀ c d join a b i₀ slots i = 64 - i
@@ -67,7 +68,7 @@ loop-less : tie.Need-loop-less Inv-loop μ-loop
 loop-less c = omega arith
 
 loop-again : tie.Need-loop-again Inv-loop μ-loop
-loop-again c = (omega arith, joined-more (c .before .before .before .before .before .before .args .join) _ _ _ (c .before .before .before .before .loop .inv .1) (c .join-words .ensures) (omega arith) (omega arith) (omega arith) (omega arith))
+loop-again c = (omega arith, joined-more (joinO (c .before .before .before .before .before .before .args .join)) _ _ _ (c .before .before .before .before .loop .inv .1) (c .join-words .ensures) (omega arith) (omega arith) (omega arith) (omega arith))
 
 same-length : tie.Need-same-length Inv-loop μ-loop
 same-length c = c .before .loop .inv .1 .long

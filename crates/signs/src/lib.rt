@@ -1,0 +1,2 @@
+// The sign fill of a seat.
+pub mod fill;

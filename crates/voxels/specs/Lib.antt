@@ -1,0 +1,3 @@
+-- What the contracts of this crate cite, and those of the crates above.
+pub mod Lent
+pub mod Answers

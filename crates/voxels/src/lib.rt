@@ -1,0 +1,4 @@
+// The calls on one voxel of a seat.
+pub mod free;
+pub mod sign;
+pub mod voxel;
