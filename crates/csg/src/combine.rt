@@ -73,7 +73,7 @@ fn meet_value(
 }
 
 // Slot k of node y is a branch: it is taken over where that of node x is none, and else the two cells are joined. Their links stay in the pool, since it is sound. Two
-// leaves are joined at once, with no call for each pair.
+// leaves are joined at once, without a further call of combine.
 fn meet_branch(
     slots: &mut [u32],
     masks: &mut [u64],

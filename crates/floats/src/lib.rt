@@ -1,6 +1,7 @@
 // A 32-bit word as a value of a grid: the bits of an IEEE 754 binary32. A value in lent memory is a word, and is read as a float only where numbers are compared.
 ghost use mathlib.Core.Path.{_≡_};
 ghost use mathlib.Core.Bool.{true, not, cond};
+ghost use Prim.Native.Nat.{_+_, _%_};
 ghost use lib.Ieee.{binary32, toBits};
 ghost use lib.Ieee.Scale.{finite};
 ghost use Rattle.floats.specs.Value.{value, isFinite, negative, negated, farWith, equal, least, most};
@@ -24,7 +25,7 @@ pub fn finite_value(x: f32) -> bool
 // The word without its sign, with 1 added to the exponent: this carries into the sign bit exactly if the exponent is all ones. So the sign of many raised words joined bit
 // by bit tells whether all of the words are finite, and a loop over words vectorises.
 pub fn raised(w: u32) -> u32
-    ensures { λ r. ⌜ not (negative r) ≡ isFinite w ⌝ }
+    ensures { λ r. ⌜ (r ≡ w % 0x8000_0000 + 0x0080_0000) × (not (negative r) ≡ isFinite w) ⌝ }
 {
     w % 0x8000_0000 + 0x0080_0000
 }

@@ -1,6 +1,6 @@
 -- An insert and a remove of a voxel whose walk ends in a leaf, by the slot at which it ends: on any state. Assumes nothing.
 use mathlib.Core.Path.{_≡_, refl, sym, ap, ap₂, _∙_}
-use mathlib.Core.Bool.{Bool, true, false, not, cond, _&&_}
+use mathlib.Core.Bool.{Bool, true, false, not, cond, _&&_, _||_}
 use mathlib.Core.List.{List, [], _∷_}
 use Prim.Native.Nat.{ℕ, zero, suc, _+_, _-_, _*_, _/_, _%_, _<_, _≤_, _^_}
 use native.Mathlib.Omega.{arith}
@@ -21,7 +21,7 @@ use Rattle.nodes.specs.Layout.{st, wordOf, valBit}
 use Rattle.nodes.specs.Change.{putS, hideS}
 use Rattle.nodes.specs.Place.{Place, at, nowhere, placeS}
 use Rattle.nodes.specs.Range.{In}
-use Rattle.nodes.specs.Remove.{noneS, bareS, shutM, removeM}
+use Rattle.nodes.specs.Remove.{noneS, aloneS, bareS, shutM, removeM}
 use Rattle.nodes.specs.Walk.{branching, below, insertM, viewS}
 use Rattle.nodes.proofs.Places.{wide-cell, word-cell}
 use Rattle.nodes.proofs.Seeks.{clash}
@@ -29,36 +29,42 @@ use Rattle.nodes.proofs.States.{st-val}
 use Rattle.nodes.proofs.Changes.{same-test}
 use Rattle.nodes.proofs.Removes.{every-same, word-none}
 
--- ---- a word of the value mask without the bit of slot k of node x: what is active there once that slot is hidden
-module _ (slots masks book : List ℕ) {n x k i : ℕ} (m : In n x k) (l : 8 ≤ x) (e : i ≡ wordOf x k) where
-  low : k < 64
-  low = omega (arith, m .slot, wide-cell x l)
-
+-- ---- a word of the value masks without the bit of place i
+module _ (masks : List ℕ) (n i : ℕ) where
   abbrev w : ℕ
   w = getD masks (64 + n + i / 64) 0
 
-  bit-of : (j : ℕ) → j < 64 → wordBit w j ≡ st n slots masks book .val x j
-  bit-of j h =
-      let q : 64 * (64 + n + i / 64) + j ≡ valBit n x j = omega (arith, word-cell x j l, word-cell x k l, e, low) in
-      has-own masks (64 + n + i / 64) j h ∙ ap (bitOf masks) q ∙ sym (st-val slots masks book (record { node = m .node; slot = omega (arith, wide-cell x l) }))
-
-  left-on : (j : ℕ) → j < 64 → wordBit (less w i) j ≡ hideS x k (st n slots masks book) .val x j
-  unfolding hideS
-  left-on j h =
-      less-bit w i j
-      ∙ ap₂ (λ (b t : Bool). b && not t) (bit-of j h) (same-test (j % 64) (i % 64) j k (λ o. omega (arith, word-cell x k l, e, low, o)) (λ o. omega (arith, word-cell x k l, e, low, o)))
-      ∙ rw (eq-eqb x x refl) (off (eqb j k) (st n slots masks book .val x j))
+  left-off : (j : ℕ) → j < 64 → not (wordBit (less w i) j) ≡ eqb j (i % 64) || not (bitOf masks (64 * (64 + n + i / 64) + j))
+  left-off j h =
+      ap not (less-bit w i j ∙ ap₂ (λ (b t : Bool). b && not t) (has-own masks (64 + n + i / 64) j h) (same-test (j % 64) (i % 64) j (i % 64) (λ o. omega arith) (λ o. omega arith)))
+      ∙ off (eqb j (i % 64)) (bitOf masks (64 * (64 + n + i / 64) + j))
     where
-      off : (t b : Bool) → b && not t ≡ cond t false b
+      off : (t b : Bool) → not (b && not t) ≡ t || not b
       off true true = refl
       off true false = refl
       off false true = refl
       off false false = refl
 
-  pub shared-is : {v : ℕ} → w < 2 ^ 64 → v ≡ less w i → not (eqb v 0) ≡ not (noneS (hideS x k (st n slots masks book) .val) x)
+  pub shared-is : {v : ℕ} → w < 2 ^ 64 → v ≡ less w i → not (eqb v 0) ≡ not (aloneS n masks i)
   shared-is f q =
       ap (λ (v : ℕ). not (eqb v 0)) q
-      ∙ ap not (word-none (less w i) (omega (arith, f, and-le-l w (ones - weight i))) ∙ every-same _ _ 64 (λ j h. ap not (left-on j h)))
+      ∙ ap not (word-none (less w i) (omega (arith, f, and-le-l w (ones - weight i))) ∙ every-same _ _ 64 left-off)
+
+  -- where that place is slot k of a cell x, the word is the cell's own: what is active there once that slot is hidden
+  pub alone-is : (slots book : List ℕ) {x k : ℕ} → In n x k → 8 ≤ x → i ≡ wordOf x k → aloneS n masks i ≡ noneS (hideS x k (st n slots masks book) .val) x
+  unfolding hideS
+  alone-is slots book {x} {k} m l e =
+      let low : k < 64 = omega (arith, m .slot, wide-cell x l) in
+      every-same _ _ 64 (λ j h.
+      let q : 64 * (64 + n + i / 64) + j ≡ valBit n x j = omega (arith, word-cell x j l, word-cell x k l, e, low) in
+      ap₂ (λ (t b : Bool). t || not b)
+      (same-test j (i % 64) j k (λ o. omega (arith, word-cell x k l, e, low, o)) (λ o. omega (arith, word-cell x k l, e, low, o)))
+      (ap (bitOf masks) q ∙ sym (st-val slots masks book (record { node = m .node; slot = omega (arith, wide-cell x l) })))
+      ∙ rw (eq-eqb x x refl) (hidden (eqb j k) (st n slots masks book .val x j)))
+    where
+      hidden : (t b : Bool) → t || not b ≡ not (cond t false b)
+      hidden true b = refl
+      hidden false b = refl
 
 -- ---- one bit that is on
 some-on : (f : ℕ → Bool) (j : ℕ) → j < 64 → f j ≡ true → every (λ j. not (f j)) 64 ≡ false

@@ -1,5 +1,5 @@
 -- A node wiped, by what the code does at each slot, and a cell as one piece. Assumes nothing.
-use mathlib.Core.Path.{_≡_, refl, sym, ap, _∙_, subst}
+use mathlib.Core.Path.{_≡_, refl, sym, ap, ap₂, _∙_, subst}
 use mathlib.Core.Logic.{inl, inr}
 use mathlib.Core.Bool.{Bool, true, false, not, cond, _&&_}
 use mathlib.Core.List.{List, [], _∷_}
@@ -135,9 +135,9 @@ module _ (n x w : ℕ) (a : Bool) where
       let r : St = eachS (unlinkS n x) m s in
       ap (wipeAt (emptyM n 0) n w a x m) (each-unlink m s) ∙ shed-unlink m (firstS x w a m r) ∙ ap (slotS x m w false a) (unlink-first m r) ∙ firstS-more x w a m (unlinkS n x m r)
 
-pub middle-by : (n c w : ℕ) (a : Bool) (s : St) {r t : St} → r ≡ eachS (unlinkS n (8 + c)) 64 s → t ≡ cellS c w a r → t ≡ wipeM (branching 1) (below 1) n w a (8 + c) s
-unfolding wipeM size
-middle-by n c w a s p q = q ∙ ap (cellS c w a) p ∙ cell-first c w a _ ∙ sym (each-unlink n (8 + c) w a 64 s)
+pub middle-by : (n c : ℕ) (s : St) {w : ℕ} {r t : St} → r ≡ eachS (unlinkS n (8 + c)) 64 s → w ≡ far → t ≡ cellS c w false r → t ≡ emptyM n 1 (8 + c) s
+unfolding emptiedM size
+middle-by n c s p f q = q ∙ ap₂ (λ (w : ℕ) (r : St). cellS c w false r) f p ∙ cell-first c far false _ ∙ sym (each-unlink n (8 + c) far false 64 s)
 
 -- ---- its links, one after the other: a step at the slots whose bits are on in a word
 module _ (f : ℕ → St → St) where
@@ -227,9 +227,8 @@ module _ (n x : ℕ) (s : St) {l : ℕ} where
   unfolding emptiedM
   empty-leaf e = subst (λ (i : ℕ). s ≡ emptyM n i x s) (sym e) refl
 
-  pub empty-middle : l ≡ 1 → {w : ℕ} {r : St} → w ≡ far → r ≡ wipeM (branching 1) (below 1) n w false x s → r ≡ emptyM n l x s
-  unfolding emptiedM wipeM
-  empty-middle e f p = p ∙ ap (λ (w : ℕ). wipeM (branching 1) (below 1) n w false x s) f ∙ subst (λ (i : ℕ). emptyM n 1 x s ≡ emptyM n i x s) (sym e) refl
+  pub empty-middle : l ≡ 1 → {r : St} → r ≡ emptyM n 1 x s → r ≡ emptyM n l x s
+  empty-middle e p = p ∙ ap (λ (i : ℕ). emptyM n i x s) (sym e)
 
 -- ---- what hangs below a slot
 module _ (n l x k : ℕ) (s : St) {b : Bool} (e : b ≡ s .kid x k) where

@@ -1,10 +1,10 @@
 -- The remove walk, on any state, sound or not. Assumes nothing.
-use mathlib.Core.Bool.{Bool, true, not, cond, _&&_}
+use mathlib.Core.Bool.{Bool, true, not, cond, _&&_, _||_}
 use mathlib.Core.List.{List, [], _∷_}
-use Prim.Native.Nat.{ℕ, _+_}
-use lib.Dec.{ltb}
+use Prim.Native.Nat.{ℕ, _+_, _*_, _/_, _%_}
+use lib.Dec.{eqb, ltb}
 use Rattle.floats.specs.Value.{isFinite}
-use Rattle.bitset.specs.Set.{every}
+use Rattle.bitset.specs.Set.{bitOf, every}
 use Rattle.grid.specs.Geometry.{Point, slotOf}
 use Rattle.nodes.specs.State.{St}
 use Rattle.nodes.specs.Change.{hideS, releaseS}
@@ -15,6 +15,10 @@ use Rattle.nodes.specs.declared.walk.Slot.the-variants as slot
 -- the mask has no bit on in the 64 slots of node y
 abbrev pub noneS : (ℕ → ℕ → Bool) → ℕ → Bool
 noneS m y = every (λ j. not (m y j)) 64
+
+-- no bit is on in the word of the value masks that has the bit of place i, but for that bit
+abbrev pub aloneS : ℕ → List ℕ → ℕ → Bool
+aloneS n masks i = every (λ j. eqb j (i % 64) || not (bitOf masks (64 * (64 + n + i / 64) + j))) 64
 
 -- no slot of the cell that is node y, with bs below it, is active or a branch
 unfoldable pub bareS : List ℕ → St → ℕ → Bool

@@ -106,7 +106,7 @@ pub fn voxel(x: i32, y: i32, z: i32) -> usize
 
 // The slots of voxel v on its way down: that of the top, and above it those of the middle node and of the leaf.
 pub fn path(v: usize) -> usize
-    ensures { λ r. ⌜ r ≡ pathOf 3 (2 ∷ 2 ∷ []) (pointOf v) ⌝ }
+    ensures { λ r. ⌜ (r ≡ pathOf 3 (2 ∷ 2 ∷ []) (pointOf v)) × (r < voxels) ⌝ }
 {
     Top::slot(v) + Top::SIZE * (Middle::slot(v) + Middle::SIZE * Leaf::slot(v))
 }

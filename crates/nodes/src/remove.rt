@@ -10,13 +10,13 @@ use super::walk::Slot;
 ghost use mathlib.Core.Path.{_≡_};
 ghost use mathlib.Core.Bool.{not};
 ghost use mathlib.Core.List.{List};
-ghost use Prim.Native.Nat.{ℕ, _+_, _*_, _<_, _≤_};
+ghost use Prim.Native.Nat.{ℕ, _+_, _*_, _<_};
 ghost use lib.ListN.{length};
 ghost use Rattle.bitset.specs.Set.{bitOf, every};
 ghost use Rattle.nodes.specs.Change.{hideS};
 ghost use Rattle.nodes.specs.Layout.{Sized, st, wordOf, slotsLength};
 ghost use Rattle.nodes.specs.Range.{In, Masked, Stands};
-ghost use Rattle.nodes.specs.Remove.{noneS, bareS, shutM, removeM};
+ghost use Rattle.nodes.specs.Remove.{aloneS, bareS, shutM, removeM};
 ghost use Rattle.nodes.specs.Split.{goOnR, splitR, splitS};
 ghost use Rattle.nodes.specs.Walk.{branching, below, pointOf};
 
@@ -36,10 +36,11 @@ pub fn hide(masks: &mut [u64], n: usize, x: usize, k: usize)
     hide_at(masks, n, memory::word_of(x, k));
 }
 
-// Another slot than the one at place i is active in its leaf, and stays so where that one is hidden.
+// Another bit of the value masks is on in the word that has that of place i. In a cell that word is the cell's own: another slot is active there, and stays so
+// where that one is hidden.
 pub fn shared(masks: &[u64], n: usize, i: usize) -> bool
     requires { ⌜ (Masked n (now masks)) × (i < slotsLength n) ⌝ }
-    ensures { λ r. ⌜ ((slots book : List ℕ) (x k : ℕ) → In n x k → 8 ≤ x → i ≡ wordOf x k → r ≡ not (noneS (hideS x k (st n slots (now (masks .entry)) book) .val) x)) ⌝ }
+    ensures { λ r. ⌜ r ≡ not (aloneS n (now (masks .entry)) i) ⌝ }
 {
     let w = masks[TOP_MASKS + n + i / 64];
     bitset::without(w, i) != 0

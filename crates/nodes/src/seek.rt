@@ -11,7 +11,7 @@ ghost use Rattle.grid.specs.Geometry.{Point};
 ghost use Rattle.nodes.specs.Layout.{st, wordOf, slotsLength};
 ghost use Rattle.nodes.specs.Place.{pathOf, leadS, placeS, packed};
 ghost use Rattle.nodes.specs.Range.{In, Cells, Masked};
-ghost use Rattle.nodes.specs.Walk.{branching, below};
+ghost use Rattle.nodes.specs.Walk.{branching, below, voxels};
 
 // The answer of a walk: below this the place of the word of the slot reached, and above it the level, from 1 on. It is 0 where the path is broken.
 pub const ENDS: usize = 0x100_0000;
@@ -62,9 +62,9 @@ fn find(slots: &[u32], masks: &[u64], n: usize, level: usize, c: usize, t: usize
     0
 }
 
-// The walk in a seat on the path t.
+// The walk in a seat on the path t. Every number below that of the voxels is the path of one.
 pub fn seek(slots: &[u32], masks: &[u64], n: usize, seat: usize, t: usize) -> usize
-    requires { ⌜ (Cells n (now slots) (now masks)) × (seat < 8) ⌝ }
+    requires { ⌜ (Cells n (now slots) (now masks)) × (seat < 8) × (t < voxels) ⌝ }
     ensures { λ r. ⌜ ((book : List ℕ) (p : Point) → t ≡ pathOf 3 (2 ∷ 2 ∷ []) p → r ≡ packed (placeS 3 (2 ∷ 2 ∷ []) n (st n (now (slots .entry)) (now (masks .entry)) book) seat p)) ⌝ }
 {
     let q = TOP_WORDS * seat + t / CELL % TOP_WORDS;

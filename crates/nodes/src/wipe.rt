@@ -42,23 +42,14 @@ fn give_linked(slots: &[u32], masks: &[u64], book: &mut [u32], n: usize, c: usiz
     }
 }
 
-// Every slot of cell c, of level 1, holds the word w, active or hidden, and has no branch. Nothing hangs below a leaf, and what a free cell holds is never read: so
-// the leaves are given back as they are, and the cell is written as one piece.
-fn wipe_middle(
-    slots: &mut [u32],
-    masks: &mut [u64],
-    book: &mut [u32],
-    n: usize,
-    c: usize,
-    w: u32,
-    active: bool,
-)
+// Cell c, of level 1, is about to be given back. Nothing hangs below a leaf, and what a free cell holds is never read: so its leaves are given back as they are, and the
+// cell is written as one piece.
+fn empty_middle(slots: &mut [u32], masks: &mut [u64], book: &mut [u32], n: usize, c: usize)
     requires { ⌜ (Sized n (now slots) (now masks) (now book)) × (c < n) ⌝ }
-    ensures { λ _. ⌜ st n (now (slots .exit)) (now (masks .exit)) (now (book .exit))
-        ≡ wipeM (branching 1) (below 1) n w active (8 + c) (st n (now (slots .entry)) (now (masks .entry)) (now (book .entry))) ⌝ }
+    ensures { λ _. ⌜ st n (now (slots .exit)) (now (masks .exit)) (now (book .exit)) ≡ emptyM n 1 (8 + c) (st n (now (slots .entry)) (now (masks .entry)) (now (book .entry))) ⌝ }
 {
     give_linked(slots, masks, book, n, c);
-    cells::blank(slots, masks, n, c, w, active);
+    cells::blank(slots, masks, n, c, floats::far_word(false), false);
 }
 
 // Cell c, of a level, is about to be given back: nothing hangs below it any more.
@@ -70,7 +61,7 @@ fn empty(slots: &mut [u32], masks: &mut [u64], book: &mut [u32], n: usize, level
     if level == 0 {
         return;
     }
-    wipe_middle(slots, masks, book, n, c, floats::far_word(false), false);
+    empty_middle(slots, masks, book, n, c);
 }
 
 // What hangs below slot k of node x of a level above the leaves. A link that leaves the pool is not followed; the cell is emptied before it is given back, so that

@@ -21,8 +21,7 @@ ghost use Rattle.trees.specs.Combine.{joinO};
 ghost use Rattle.means.specs.Joined.{combinedS};
 ghost use Rattle.csg.specs.Joinable.{Joinable};
 ghost use Rattle.means.specs.Mem.{fits, readsIn};
-ghost use Rattle.voxels.specs.Answers.{memOf, Says, codeOf};
-ghost use Rattle.voxels.specs.Answers.{orNone};
+ghost use Rattle.voxels.specs.Answers.{memOf, Says, codeOf, orNone};
 ghost use Rattle.pool.specs.Guard.{roomOf, filledOf};
 
 // Refusal 8 or 9 of a copy, or 0: the target has to be empty, and the pool to have as many free cells as the source reaches.

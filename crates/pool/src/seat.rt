@@ -13,8 +13,7 @@ ghost use Rattle.seats.specs.Call.{One, asks};
 ghost use Rattle.seats.specs.Refusal.{refusal};
 ghost use Rattle.nodes.specs.Layout.{st, Sized};
 ghost use Rattle.means.specs.Mem.{fits, readsIn};
-ghost use Rattle.voxels.specs.Answers.{memOf, Says, codeOf};
-ghost use Rattle.voxels.specs.Answers.{orNone};
+ghost use Rattle.voxels.specs.Answers.{memOf, Says, codeOf, orNone};
 ghost use Rattle.pool.specs.Guard.{solidOf};
 ghost use Rattle.pool.specs.Task.{turnAct, actOf, workS, turnMark, markOf, changeS};
 

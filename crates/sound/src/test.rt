@@ -1,12 +1,13 @@
 // The test that a pool is sound. Each mark, each place of the stack and each slot that counts is looked at, and nothing is trusted: a place of the stack and a link are each
 // below the pool's bounds before they are used as a place. Each place of the stack below the count of free cells, and each link, names a cell, whose use mark has to name it
 // in turn: so no two of them name one cell. Hence each cell is free or linked to, as its use mark says, exactly if these places and links are as many as the cells. They are
-// counted, and no cell is looked at for it. Every call on the whole pool makes this test first, so it is written for speed: slots are tested by groups of 64, links are
+// counted, and no use mark is followed back to the place that it names. Every call on the whole pool makes this test first, so it is written for speed: slots are tested by groups of 64, links are
 // counted by the words of the child masks, and the cells that no call has had yet are tested by groups of 64 too.
 use nodes::cells;
 use nodes::geometry::Top;
 use nodes::memory::CELL;
 use nodes::memory::HEAD;
+use nodes::memory::TOP_MASKS;
 use nodes::memory::USED;
 use nodes::memory::USED_BY_TOPS;
 ghost use mathlib.Core.Path.{_≡_};
@@ -163,7 +164,7 @@ fn top_links(masks: &[u64]) -> usize
 {
     let mut all = 0;
     let mut i = 0;
-    while i < 64 {
+    while i < TOP_MASKS {
         all += bits(masks[i]);
         i += 1;
     }
@@ -178,7 +179,7 @@ fn cell_links(masks: &[u64], book: &[u32], n: usize, c: usize) -> usize
     if !forks(book, n, 8 + c) {
         return 0;
     }
-    bits(masks[64 + c])
+    bits(masks[TOP_MASKS + c])
 }
 
 // The links of all nodes, where the cells below `from` are known to have no branches.

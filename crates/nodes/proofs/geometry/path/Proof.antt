@@ -1,3 +1,4 @@
+use native.Mathlib.Omega.{arith}
 use Rattle.nodes.proofs.Seeks.{path-made}
 use borrow.Author.Needs.{needs}
 use Rattle.nodes.proofs.geometry.path.Statement.{statement}
@@ -25,7 +26,11 @@ add-result-2 : tie.Need-add-result-2
 add-result-2 c = search needs
 
 returns : tie.Need-returns
-returns c = path-made _ (c .before .before .slot .ensures .0) (c .before .slot2 .ensures .0) (c .slot3 .ensures .0)
+returns c =
+    let a = c .before .before .slot .ensures in
+    let b = c .before .slot2 .ensures in
+    let d = c .slot3 .ensures in
+    (path-made _ (a .0) (b .0) (d .0), omega (arith, a .1, b .1, d .1))
 
 pub path-spec : {M : Type 1} → statement M
 path-spec =

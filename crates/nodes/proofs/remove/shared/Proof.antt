@@ -5,9 +5,9 @@ use Rattle.nodes.proofs.remove.shared.Statement.{statement}
 use Rattle.nodes.proofs.remove.shared.Tie as tie
 
 returns : tie.Need-returns
-returns c slots book x k m l e =
+returns c =
     let a = c .before .before .before .args in
-    shared-is slots (now (a .masks)) book m l e (c .before .shared-slice-known2 .given _ .fits) (c .without .ensures)
+    shared-is (now (a .masks)) (a .n) (a .i) (c .before .shared-slice-known2 .given _ .fits) (c .without .ensures)
 
 pub shared-spec : {M : Type 1} → statement M
 shared-spec = tie.close (tie.spec (λ c. search needs) (λ c. search needs) (λ c. search needs) (λ c. search needs) (λ c κs. search needs) returns)

@@ -40,7 +40,7 @@ loop-less c = omega arith
 loop-again : tie.Need-loop-again Inv-loop μ-loop
 loop-again c =
     let l = c .before .before .before .loop in
-    (omega arith, sign-more _ _ (l .all) _ (c .raised .ensures) (l .inv .1))
+    (omega arith, sign-more _ _ (l .all) _ (c .raised .ensures .1) (l .inv .1))
 
 negative-word-requires : tie.Need-negative-word-requires Inv-loop μ-loop
 negative-word-requires c κs = search needs

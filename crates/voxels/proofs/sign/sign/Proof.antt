@@ -21,7 +21,7 @@ seek-requires : tie.Need-seek-requires
 seek-requires c κs =
     let a = c .before .before .before .before .before .before .before .args in
     let h = c .before .if2 .left in
-    (cells-of (is-sized (memOf (now (a .slots)) (now (a .masks)) (now (a .book))) _ (c .before .before .before .cells .ensures) (c .before .before .if1 .left)), omega (arith, h))
+    (cells-of (is-sized (memOf (now (a .slots)) (now (a .masks)) (now (a .book))) _ (c .before .before .before .cells .ensures) (c .before .before .if1 .left)), omega (arith, h), c .path .ensures .1)
 
 shared-slice-read-signed : tie.Need-shared-slice-read-signed
 shared-slice-read-signed c =
@@ -35,13 +35,13 @@ signed-requires c κs =
     let a = c .before .before .before .before .before .before .before .before .before .args in
     let z = is-sized (memOf (now (a .slots)) (now (a .masks)) (now (a .book))) _ (c .before .before .before .before .before .cells .ensures) (c .before .before .before .before .if1 .left) in
     let h = c .before .before .before .if2 .left in
-    (record { most = z .most; slots-fit = z .slots-fit }, ends-low (st _ (now (a .slots)) (now (a .masks)) (now (a .book))) (pointOf (a .v)) (z .most) (omega (arith, h), c .before .seek .ensures _ _ (c .before .before .path .ensures)))
+    (record { most = z .most; slots-fit = z .slots-fit }, ends-low (st _ (now (a .slots)) (now (a .masks)) (now (a .book))) (pointOf (a .v)) (z .most) (omega (arith, h), c .before .seek .ensures _ _ (c .before .before .path .ensures .0)))
 
 returns-3 : tie.Need-returns-3
 returns-3 c p e =
     let a = c .before .before .before .before .before .before .before .before .before .before .args in
     let h = c .before .before .before .before .if2 .left in
-    sign-says (memOf (now (a .slots)) (now (a .masks)) (now (a .book))) _ (c .before .before .before .before .before .before .cells .ensures) (c .before .before .before .before .before .if1 .left) (a .seat) (a .v) p h e (c .signed .ensures _ _ (pointOf (a .v)) (a .seat) (omega (arith, h), c .before .before .seek .ensures _ _ (c .before .before .before .path .ensures)))
+    sign-says (memOf (now (a .slots)) (now (a .masks)) (now (a .book))) _ (c .before .before .before .before .before .before .cells .ensures) (c .before .before .before .before .before .if1 .left) (a .seat) (a .v) p h e (c .signed .ensures _ _ (pointOf (a .v)) (a .seat) (omega (arith, h), c .before .before .seek .ensures _ _ (c .before .before .before .path .ensures .0)))
 
 pub sign-spec : {M : Type 1} → statement M
 sign-spec =

@@ -25,7 +25,7 @@ seek-requires c κs =
     let a = c .before .before .before .before .before .before .before .before .before .before .before .args in
     let h = c .before .before .before .before .before .if2 .left in
     let z = is-sized (memOf (a .slots .now) (a .masks .now) (a .book .now)) _ (c .before .before .before .before .before .before .before .cells .ensures) (c .before .before .before .before .before .before .if1 .left) in
-    (cells-of z, omega (arith, h))
+    (cells-of z, omega (arith, h), c .path .ensures .1)
 
 returns-3 : tie.Need-returns-3
 returns-3 c p e =
@@ -37,20 +37,20 @@ insert-blocked-requires c κs =
     let a = c .before .before .before .before .before .before .before .before .before .before .before .before .before .before .before .args in
     let h = c .before .before .before .before .before .before .before .before .before .if2 .left in
     let z = is-sized (memOf (a .slots .now) (a .masks .now) (a .book .now)) _ (c .before .before .before .before .before .before .before .before .before .before .before .cells .ensures) (c .before .before .before .before .before .before .before .before .before .before .if1 .left) in
-    (z, ends-low (st _ (a .slots .now) (a .masks .now) (a .book .now)) (pointOf (a .v)) (z .most) (omega (arith, h), c .before .before .before .seek .ensures _ (pointOf (a .v)) (c .before .before .before .before .path .ensures)), (passed _ (c .before .before .before .before .before .before .before .before .finite-word .ensures) (c .before .before .before .before .before .before .before .if3 .left)))
+    (z, ends-low (st _ (a .slots .now) (a .masks .now) (a .book .now)) (pointOf (a .v)) (z .most) (omega (arith, h), c .before .before .before .seek .ensures _ (pointOf (a .v)) (c .before .before .before .before .path .ensures .0)), (passed _ (c .before .before .before .before .before .before .before .before .finite-word .ensures) (c .before .before .before .before .before .before .before .if3 .left)))
 
 returns-4 : tie.Need-returns-4
 returns-4 c p e =
     let a = c .before .before .before .before .before .before .before .before .before .before .before .before .before .before .before .before .before .args in
     let h = c .before .before .before .before .before .before .before .before .before .before .before .if2 .left in
-    edit-blocked (inserting (a .w) (passed _ (c .before .before .before .before .before .before .before .before .before .before .finite-word .ensures) (c .before .before .before .before .before .before .before .before .before .if3 .left))) (memOf (a .slots .now) (a .masks .now) (a .book .now)) _ (c .before .before .before .before .before .before .before .before .before .before .before .before .before .cells .ensures) (c .before .before .before .before .before .before .before .before .before .before .before .before .if1 .left) (a .seat) (a .v) h p e _ (c .before .insert-blocked .ensures (pointOf (a .v)) (a .seat) (omega (arith, h), c .before .before .before .before .before .seek .ensures _ (pointOf (a .v)) (c .before .before .before .before .before .before .path .ensures))) (c .if4 .taken)
+    edit-blocked (inserting (a .w) (passed _ (c .before .before .before .before .before .before .before .before .before .before .finite-word .ensures) (c .before .before .before .before .before .before .before .before .before .if3 .left))) (memOf (a .slots .now) (a .masks .now) (a .book .now)) _ (c .before .before .before .before .before .before .before .before .before .before .before .before .before .cells .ensures) (c .before .before .before .before .before .before .before .before .before .before .before .before .if1 .left) (a .seat) (a .v) h p e _ (c .before .insert-blocked .ensures (pointOf (a .v)) (a .seat) (omega (arith, h), c .before .before .before .before .before .seek .ensures _ (pointOf (a .v)) (c .before .before .before .before .before .before .path .ensures .0))) (c .if4 .taken)
 
 insert-unmark-requires : tie.Need-insert-unmark-requires
 insert-unmark-requires c κs =
     let a = c .before .before .before .before .before .before .before .before .before .before .before .before .before .before .before .before .before .before .before .before .args in
     let h = c .before .before .before .before .before .before .before .before .before .before .before .before .before .before .if2 .left in
     let z = is-sized (memOf (a .slots .now) (a .masks .now) (a .book .now)) _ (c .before .before .before .before .before .before .before .before .before .before .before .before .before .before .before .before .cells .ensures) (c .before .before .before .before .before .before .before .before .before .before .before .before .before .before .before .if1 .left) in
-    (z, (passed _ (c .before .before .before .before .before .before .before .before .before .before .before .before .before .finite-word .ensures) (c .before .before .before .before .before .before .before .before .before .before .before .before .if3 .left)), (omega (arith, h), c .before .before .before .before .before .before .before .before .seek .ensures _ (pointOf (a .v)) (c .before .before .before .before .before .before .before .before .before .path .ensures)))
+    (z, (passed _ (c .before .before .before .before .before .before .before .before .before .before .before .before .before .finite-word .ensures) (c .before .before .before .before .before .before .before .before .before .before .before .before .if3 .left)), (omega (arith, h), c .before .before .before .before .before .before .before .before .seek .ensures _ (pointOf (a .v)) (c .before .before .before .before .before .before .before .before .before .path .ensures .0)))
 
 returns-5 : tie.Need-returns-5
 returns-5 c p e =
@@ -58,7 +58,7 @@ returns-5 c p e =
     let h = c .before .before .before .before .before .before .before .before .before .before .before .before .before .before .before .before .before .before .before .before .before .if2 .left in
     let u = c .before .before .before .before .before .before .insert-unmark in
     let k = u .kept in
-    edit-done (inserting (a .w) (passed _ (c .before .before .before .before .before .before .before .before .before .before .before .before .before .before .before .before .before .before .before .before .finite-word .ensures) (c .before .before .before .before .before .before .before .before .before .before .before .before .before .before .before .before .before .before .before .if3 .left))) (memOf (a .slots .now) (a .masks .now) (a .book .now)) _ (c .before .before .before .before .before .before .before .before .before .before .before .before .before .before .before .before .before .before .before .before .before .before .before .cells .ensures) (c .before .before .before .before .before .before .before .before .before .before .before .before .before .before .before .before .before .before .before .before .before .before .if1 .left) (a .seat) (a .v) h p e _ (c .before .before .before .before .before .before .before .before .before .before .before .insert-blocked .ensures (pointOf (a .v)) (a .seat) (omega (arith, h), c .before .before .before .before .before .before .before .before .before .before .before .before .before .before .before .seek .ensures _ (pointOf (a .v)) (c .before .before .before .before .before .before .before .before .before .before .before .before .before .before .before .before .path .ensures)))
+    edit-done (inserting (a .w) (passed _ (c .before .before .before .before .before .before .before .before .before .before .before .before .before .before .before .before .before .before .before .before .finite-word .ensures) (c .before .before .before .before .before .before .before .before .before .before .before .before .before .before .before .before .before .before .before .if3 .left))) (memOf (a .slots .now) (a .masks .now) (a .book .now)) _ (c .before .before .before .before .before .before .before .before .before .before .before .before .before .before .before .before .before .before .before .before .before .before .before .cells .ensures) (c .before .before .before .before .before .before .before .before .before .before .before .before .before .before .before .before .before .before .before .before .before .before .if1 .left) (a .seat) (a .v) h p e _ (c .before .before .before .before .before .before .before .before .before .before .before .insert-blocked .ensures (pointOf (a .v)) (a .seat) (omega (arith, h), c .before .before .before .before .before .before .before .before .before .before .before .before .before .before .before .seek .ensures _ (pointOf (a .v)) (c .before .before .before .before .before .before .before .before .before .before .before .before .before .before .before .before .path .ensures .0)))
     (memOf (u .last .0) (u .last .1 .0) (u .last .1 .1 .0)) (record { slots = k .0; masks = k .1 .0; book = k .1 .1 .0 }) (c .before .before .before .before .before .before .before .before .before .before .if4 .left) (u .ensures)
 
 pub insert-spec : {M : Type 1} → statement M

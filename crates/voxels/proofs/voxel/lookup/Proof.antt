@@ -21,20 +21,20 @@ seek-requires : tie.Need-seek-requires
 seek-requires c κs =
     let a = c .before .before .before .before .before .before .before .args in
     let h = c .before .if2 .left in
-    (cells-of (is-sized (memOf (now (a .slots)) (now (a .masks)) (now (a .book))) _ (c .before .before .before .cells .ensures) (c .before .before .if1 .left)), omega (arith, h))
+    (cells-of (is-sized (memOf (now (a .slots)) (now (a .masks)) (now (a .book))) _ (c .before .before .before .cells .ensures) (c .before .before .if1 .left)), omega (arith, h), c .path .ensures .1)
 
 shown-requires : tie.Need-shown-requires
 shown-requires c κs =
     let a = c .before .before .before .before .before .before .before .before .args in
     let z = is-sized (memOf (now (a .slots)) (now (a .masks)) (now (a .book))) _ (c .before .before .before .before .cells .ensures) (c .before .before .before .if1 .left) in
     let h = c .before .before .if2 .left in
-    (cells-of z, ends-low (st _ (now (a .slots)) (now (a .masks)) (now (a .book))) (pointOf (a .v)) (z .most) (omega (arith, h), c .seek .ensures _ _ (c .before .path .ensures)))
+    (cells-of z, ends-low (st _ (now (a .slots)) (now (a .masks)) (now (a .book))) (pointOf (a .v)) (z .most) (omega (arith, h), c .seek .ensures _ _ (c .before .path .ensures .0)))
 
 returns-3 : tie.Need-returns-3
 returns-3 c p e =
     let a = c .before .before .before .before .before .before .before .before .before .args in
     let h = c .before .before .before .if2 .left in
-    lookup-says (memOf (now (a .slots)) (now (a .masks)) (now (a .book))) _ (c .before .before .before .before .before .cells .ensures) (c .before .before .before .before .if1 .left) (a .seat) (a .v) p h e (c .shown .ensures _ (pointOf (a .v)) (a .seat) (omega (arith, h), c .before .seek .ensures _ _ (c .before .before .path .ensures)))
+    lookup-says (memOf (now (a .slots)) (now (a .masks)) (now (a .book))) _ (c .before .before .before .before .before .cells .ensures) (c .before .before .before .before .if1 .left) (a .seat) (a .v) p h e (c .shown .ensures _ (pointOf (a .v)) (a .seat) (omega (arith, h), c .before .seek .ensures _ _ (c .before .before .path .ensures .0)))
 
 pub lookup-spec : {M : Type 1} → statement M
 lookup-spec =
