@@ -4,6 +4,8 @@
 // used or not, what becomes of it.
 //
 // The source's `data` has no function here: the lent slice is the data.
+#![tactic(auto)]
+
 ghost use Rattle.std.specs.Prelude.{◌≡◌, true, false, cond, not, ◌&&◌, ◌||◌, ℕ, ◌+◌, ◌-◌, ◌*◌, ◌/◌, ◌<◌, ◌≤◌, length, get_or, eqb, leb, ltb};
 ghost use Rattle.std.specs.Bool.{xor};
 ghost use Rattle.std.specs.Int.Bits.{bit_and};
@@ -247,7 +249,7 @@ pub fn eq(a: &[u64], b: &[u64], n: usize) -> bool
 }
 
 // An operation on two sets, bit by bit.
-#[derive(Drop)]
+#[derive(Clone, Copy)]
 enum Operation {
     And,
     Or,

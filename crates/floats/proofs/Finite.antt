@@ -39,7 +39,8 @@ pub raised_sign : (w : ℕ) → not (negative (w % 2147483648 + 8388608)) ≡ is
 unfolding negative
 raised_sign w = sym (finite_word w ∙ ap not (on_case (eqb (w % 2147483648 / 8388608) 255)
     (λ e. let h : w % 2147483648 / 8388608 ≡ 255 = eqb-true _ _ e in e ∙ sym (eq-eqb ((w % 2147483648 + 8388608) / 2147483648 % 2) 1 (omega arith)))
-    (λ e. let h : w % 2147483648 / 8388608 ≡ 255 → ⊥ = eqb-false _ _ e in e ∙ sym (ne_eqb ((w % 2147483648 + 8388608) / 2147483648 % 2) 1 (λ (k : (w % 2147483648 + 8388608) / 2147483648 % 2 ≡ 1). omega arith)))))
+    (λ e. let h : w % 2147483648 / 8388608 ≡ 255 → ⊥ = eqb-false _ _ e in
+    e ∙ sym (ne_eqb ((w % 2147483648 + 8388608) / 2147483648 % 2) 1 (λ (k : (w % 2147483648 + 8388608) / 2147483648 % 2 ≡ 1). omega arith)))))
 
 -- a link, which is a number below 2 ^ 16, is a finite word
 pub small_finite : (w : ℕ) → w < 65536 → is_finite w ≡ true

@@ -7,7 +7,7 @@ use lib.Dec.{T, leb, eqb}
 use lib.Ieee.{Float, nan, inf, binary32, odd, of_fields, of_bits, to_bits, neg, fits}
 use lib.Ieee.Bits.{of_bits-to_bits, to_bits-of_bits}
 use Rattle.floats.specs.Value.{value, is_finite, negative, negated}
-use Rattle.floats.proofs.Words.{negative_is, negated_size, negated_fits}
+use Rattle.floats.proofs.Words.{negative_is_lem, negated_size, negated_fits}
 use Rattle.floats.proofs.Finite.{finite_number}
 use Rattle.floats.proofs.Signs.{negative_negated}
 
@@ -48,7 +48,7 @@ unfolding of_bits read
 value_is w l =
     let t : w % 8388608 ≡ w % 0x8000_0000 % 8388608 = omega arith in
     ap (λ (n : ℕ). of_fields binary32 (leb 0x8000_0000 w) (w % 0x8000_0000 / 8388608) n) t
-    ∙ ap (λ (s : Bool). read s (w % 0x8000_0000)) (sym (negative_is w l))
+    ∙ ap (λ (s : Bool). read s (w % 0x8000_0000)) (sym (negative_is_lem w l))
 
 pub value_negated : (w : ℕ) → w < 0x1_0000_0000 → value (negated w) ≡ neg (value w)
 unfolding read

@@ -73,7 +73,8 @@ module _ (v w : ℕ) (lv : v < 0x1_0000_0000) (lw : w < 0x1_0000_0000) (hv : is_
   pub compared : Compared v w
   unfolding before a b
   compared = on_case (lt (value v) (value w))
-      (λ e. let f : (below (negative w) b (negative v) a ≡ false) × (first (negative v) (negative w) (below (negative v) a (negative w) b) ≡ true) = less_first (negative v) (negative w) a b (sym L ∙ e) in
+      (λ e. let f : (below (negative w) b (negative v) a ≡ false) ×
+      (first (negative v) (negative w) (below (negative v) a (negative w) b) ≡ true) = less_first (negative v) (negative w) a b (sym L ∙ e) in
       less e (M ∙ f.0) (ap (first (negative v) (negative w)) L ∙ f.1))
       (λ e. on_case (lt (value w) (value v))
       (λ d. more e d (ap (first (negative v) (negative w)) L ∙ more_last (negative v) (negative w) a b (sym M ∙ d)))
@@ -148,13 +149,13 @@ module _ (v w : ℕ) (lv : v < 0x1_0000_0000) (lw : w < 0x1_0000_0000) (hv : is_
     unfolding least
     least_joined = rw (ex, ey) (joined bit_or or_self v w (word_value v lv hv) (word_value w lw hw) (λ e. alike_has (λ m n. bit_or n m ≡ least m n) (equal_means v w lv lw hv hw e)
         (λ n. or_self n ∙ sym (cond_one (before n n) n))
-        (λ s. elim s [ true ↦ sym (least_zeros true) | false ↦ sym (least_zeros false) ])))
+        (λ s. elim s as (λ k. bit_or (zero_with (not k)) (zero_with k) ≡ least (zero_with k) (zero_with (not k))) [ true ↦ sym (least_zeros true) | false ↦ sym (least_zeros false) ])))
 
     pub most_joined : p ≡ to_bits binary32 (cond (lt x y) y x) → q ≡ to_bits binary32 (cond (lt y x) x y) → bit_and p q ≡ most v w
     unfolding most
     most_joined = rw (ex, ey) (joined bit_and and_self w v (word_value w lw hw) (word_value v lv hv) (λ e. alike_has (λ m n. bit_and m n ≡ most m n) (equal_means v w lv lw hv hw e)
         (λ n. and_self n ∙ sym (cond_one (before n n) n))
-        (λ s. elim s [ true ↦ sym (most_zeros true) | false ↦ sym (most_zeros false) ])))
+        (λ s. elim s as (λ k. bit_and (zero_with k) (zero_with (not k)) ≡ most (zero_with k) (zero_with (not k))) [ true ↦ sym (most_zeros true) | false ↦ sym (most_zeros false) ])))
 
   ordered : lt (value (cond (before v w) w v)) (value (cond (before v w) v w)) ≡ false
   ordered = go (compared v w lv lw hv hw)

@@ -11,7 +11,7 @@ use lib.Ieee.Exact.{HasValue, odd_sign}
 use lib.Ieee.Fits.{down_pos}
 use borrow.Author.Tests.{eq-eqb, ne_eqb, lt-ltb, le-ltb, ltb-true, ltb-false}
 use Rattle.floats.specs.Value.{value, is_finite, negative, equal}
-use Rattle.floats.proofs.Words.{on_case, negative_is}
+use Rattle.floats.proofs.Words.{on_case, negative_is_lem}
 use Rattle.floats.proofs.Finite.{finite_exponent}
 
 -- ---- the size in units of the smallest value: of the exponent's field and the digits; of the 31 bits
@@ -105,7 +105,7 @@ word_has : (w : ℕ) → w < 0x1_0000_0000 → is_finite w ≡ true → HasValue
 unfolding of_bits size_b
 word_has w l h =
     let t : w % 8388608 ≡ w % 0x8000_0000 % 8388608 = omega arith in
-    rw (negative_is w l, sym t) (fields (leb 0x8000_0000 w) (w % 0x8000_0000 / 8388608) (w % 8388608) (finite_exponent w h))
+    rw (negative_is_lem w l, sym t) (fields (leb 0x8000_0000 w) (w % 0x8000_0000 / 8388608) (w % 8388608) (finite_exponent w h))
 
 -- "Sign is the sign bit": of the float as of the word
 abbrev pub sign : Float → Bool
@@ -131,7 +131,8 @@ module _ (c : ℕ) (hc : 0 < c) (k l : ℕ) where
   common (fin s' m e) (inf t') s t h g = absurd g
   common (fin s' m e) (fin t' n d) s t h g =
       let P : Sized c (down e * down d) (m * up e * down d) k = mul_right_comm (m * up e) (down d) c ∙ ap (λ (z : ℕ). z * down d) h.1 ∙ mul_assoc (size_b k) (down e) (down d) in
-      let Q : Sized c (down e * down d) (n * up d * down e) l = mul_right_comm (n * up d) (down e) c ∙ ap (λ (z : ℕ). z * down e) g.1 ∙ mul_right_comm (size_b l) (down d) (down e) ∙ mul_assoc (size_b l) (down e) (down d) in
+      let Q : Sized c (down e * down d) (n * up d * down e) l = mul_right_comm (n * up d) (down e) c ∙ ap (λ (z : ℕ). z * down e) g.1 ∙ mul_right_comm (size_b l) (down d) (down e)
+      ∙ mul_assoc (size_b l) (down e) (down d) in
       let K : 0 < down e * down d = mul-pos (down_pos e) (down_pos d) in
       let p = m * up e * down d in
       let q = n * up d * down e in (

@@ -23,8 +23,8 @@ pub positive_word : (w : ℕ) → w < 0x1_0000_0000 → negative w ≡ false →
 unfolding negative
 positive_word w l e = let h : w / 0x8000_0000 % 2 ≡ 1 → ⊥ = eqb-false _ _ e in omega arith
 
-pub negative_is : (w : ℕ) → w < 0x1_0000_0000 → negative w ≡ leb 0x8000_0000 w
-negative_is w l = on_case (negative w)
+pub negative_is_lem : (w : ℕ) → w < 0x1_0000_0000 → negative w ≡ leb 0x8000_0000 w
+negative_is_lem w l = on_case (negative w)
     (λ e. e ∙ sym (le-leb 0x8000_0000 w (negative_word w e)))
     (λ e. e ∙ sym (lt-leb 0x8000_0000 w (positive_word w l e)))
 

@@ -1,4 +1,6 @@
 // A 32-bit word as a value of a grid: the bits of an IEEE 754 binary32. A value in lent memory is a word, and is read as a float only where numbers are compared.
+#![tactic(auto)]
+
 ghost use Rattle.std.specs.Prelude.{◌≡◌, true, not, cond, ◌+◌, ◌%◌};
 ghost use Rattle.std.specs.Float.{binary32};
 ghost use Rattle.std.specs.Float.Ieee.{to_bits};
@@ -111,7 +113,7 @@ pub fn most_word(v: u32, w: u32) -> u32
 }
 
 // The test of a cut, each case with its bounds.
-#[derive(Drop)]
+#[derive(Clone, Copy)]
 pub enum Test {
     Below(f32),
     Above(f32),

@@ -15,7 +15,8 @@ use Rattle.grid.specs.Voxel.{insert_s, insert, kept, remove_s, remove}
 use Rattle.grid.specs.Whole.{fill, clear, prune_s, cut_s, flip, flip_s}
 use Rattle.grid.proofs.Places.{cond_at, changed_at}
 
-changed_proper : (b : ℕ) (bs : List ℕ) (i : ℕ) (f : SlotOf bs → SlotOf bs) (n : Node (b ∷ bs)) → Proper (b ∷ bs) n → ((s : SlotOf bs) → ProperS bs s → ProperS bs (f s)) → Proper (b ∷ bs) (changed (size b) i f n)
+changed_proper : (b : ℕ) (bs : List ℕ) (i : ℕ) (f : SlotOf bs → SlotOf bs) (n : Node (b ∷ bs)) → Proper (b ∷ bs) n → ((s : SlotOf bs) → ProperS bs s → ProperS bs (f s)) →
+    Proper (b ∷ bs) (changed (size b) i f n)
 unfolding changed
 changed_proper b bs i f n r h = (
   (λ k. ap (λ s. cond (eqb (k % size b) i) (f s) s) (r.0 k) ∙ ap (λ (j : ℕ). cond (eqb j i) (f (n (k % size b))) (n (k % size b))) (sym (mod-mod k (size b)))),
@@ -85,7 +86,8 @@ pub fill_signs_proper : (bs : List ℕ) (c : Node bs) → Proper bs c → Proper
 unfolding fill_signs
 fill_signs_proper [] c r = tt
 fill_signs_proper (b ∷ bs) n r =
-    filled_rows_proper b bs (λ i. fill_signs_s bs (n i)) (map_proper b bs (fill_signs_s bs) n r (slot_ind (λ s. ProperS bs s → ProperS bs (fill_signs_s bs s)) (fill_signs_proper bs) (λ v h. h) (λ v h. h)))
+    filled_rows_proper b bs (λ i. fill_signs_s bs (n i)) (map_proper b bs (fill_signs_s bs) n r
+    (slot_ind (λ s. ProperS bs s → ProperS bs (fill_signs_s bs s)) (fill_signs_proper bs) (λ v h. h) (λ v h. h)))
 
 under_b_proper : (o : Operation) (bs : List ℕ) (k : Bool) (s : SlotOf bs) → ProperS bs s → ProperS bs (under_b o bs k s)
 unfolding under_b

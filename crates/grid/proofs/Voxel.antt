@@ -84,7 +84,8 @@ module _ (p : Point) where
         (λ e. insert_s_there bs (n (slot_of b bs q)) q (λ g. h (e, g)))
     insert_s_there (b ∷ bs) (tile w) q h = go (insert_s_there bs (tile w) q) (equal w v)
       where
-        go : ((Same bs p q → ⊥) → lookup_s bs (insert_s bs p v (tile w)) q ≡ some w) → (k : Bool) → lookup_s (b ∷ bs) (cond k (tile w) (branch (changed (size b) (slot_of b bs p) (insert_s bs p v) (λ _. tile w)))) q ≡ some w
+        go : ((Same bs p q → ⊥) → lookup_s bs (insert_s bs p v (tile w)) q ≡ some w) → (k : Bool) →
+            lookup_s (b ∷ bs) (cond k (tile w) (branch (changed (size b) (slot_of b bs p) (insert_s bs p v) (λ _. tile w)))) q ≡ some w
         go ih true = refl
         go ih false = changed_lookup b bs (λ _. tile w) (slot_of b bs p) (insert_s bs p v) q (λ e. ih (λ g. h (e, g)))
     insert_s_there (b ∷ bs) (hidden w) q h =

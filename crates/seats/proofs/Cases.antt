@@ -14,7 +14,8 @@ use Rattle.grid.specs.Node.{is_hidden, size, changed, put, every, sum}
 use Rattle.grid.specs.SignFill.{first_sign, last_sign, along, start, sign_i, sign_j, sign_k, carried, filled_rows, fill_signs}
 use Rattle.grid.specs.Voxel.{lookup, sign_at, insert_s, insert, kept, remove_s, remove, need_insert_s, need_remove_s}
 use Rattle.grid.specs.Whole.{fill, clear, prune_s, cut_s, flip, cells, reach, is_empty, hollow, has_hollow}
-use Rattle.seats.specs.Call.{Lookup, Sign, Remove, Insert, Fill, Cut, Clear, Prune, Flip, FillSigns, IsEmpty, Copy, Combine, Call, One, Two, Prepare, Count, Answer, refused, found, negative_is, empty_is, free_cells, done}
+use Rattle.seats.specs.Call.{Lookup, Sign, Remove, Insert, Fill, Cut, Clear, Prune, Flip, FillSigns, IsEmpty, Copy, Combine}
+use Rattle.seats.specs.Call.{Call, One, Two, Prepare, Count, Answer, refused, found, negative_is, empty_is, free_cells, done}
 use Rattle.seats.specs.Refusal.{Reads, refusal}
 use Rattle.seats.specs.Seat.{State, fresh, prepared, reached, used, free}
 use Rattle.seats.specs.Step.{act, both, need_one, need_two, served, play, step}
@@ -75,7 +76,9 @@ pub runs :
     (One 0 (Insert near one) ∷ One 1 (Insert beside minus_one) ∷ One 0 FillSigns ∷ One 1 FillSigns ∷ Two (Combine subtract) 0 1 ∷ One 0 FillSigns
     ∷ One 1 FillSigns ∷ Two (Combine union) 0 1 ∷ Two (Combine union) 1 0 ∷ One 0 Prune ∷ One 0 FillSigns ∷ Count ∷ [])
     ≡ done ∷ done ∷ done ∷ done ∷ done ∷ refused 7 ∷ done ∷ refused 7 ∷ refused 7 ∷ done ∷ done ∷ free_cells 4 ∷ [])
-unfolding replies step play served act both need_one need_two free used reached reach cells sum size prepared fresh clear fill lookup sign_at need_insert_s need_remove_s insert insert_s remove remove_s kept every is_hidden put changed slot_of total part masked is_finite equal negative negated far far_with flip prune_s cut_s has_hollow hollow is_empty fill_signs filled_rows carried sign_k sign_j sign_i along start first_sign last_sign combine_s joined_voxels under_a under_b least most before eq lt of_bits
+unfolding replies step play served act both need_one need_two free used reached reach cells sum size prepared fresh clear fill lookup sign_at need_insert_s need_remove_s insert
+    insert_s remove remove_s kept every is_hidden put changed slot_of total part masked is_finite equal negative negated far far_with flip prune_s cut_s has_hollow hollow is_empty
+    fill_signs filled_rows carried sign_k sign_j sign_i along start first_sign last_sign combine_s joined_voxels under_a under_b least most before eq lt of_bits
 runs = (refl, refl, refl, refl, refl)
 
 -- ---- refusals 1 and 5

@@ -11,14 +11,14 @@ use lib.Dec.{eqb}
 use Rattle.floats.specs.Test.{passes}
 use Rattle.grid.specs.Node.{put}
 use Rattle.grid.specs.SignFill.{fill_signs}
-use Rattle.grid.specs.Whole.{fill, clear, prune_s, cut_s, flip, is_empty, hollow, has_hollow}
+use Rattle.grid.specs.Whole.{fill, clear, prune_s, cut_s, flip, is_empty, has_hollow}
 use Rattle.grid.proofs.Cells.{flat_cells, insert_cells, remove_cells, flip_cells}
 use Rattle.grid.proofs.Places.{put_at, sum_zero, sum_put}
 use Rattle.grid.proofs.Reach.{prune_cells, cut_cells, fill_signs_cells, map_reach, same_reach, combine_reach}
 use Rattle.seats.specs.Call.{Act, Lookup, Sign, Remove, Insert, Fill, Cut, Clear, Prune, Flip, FillSigns, IsEmpty, Pair, Copy, Combine, Call, One, Two, Prepare, Count, names, Answer, refused, asks}
 use Rattle.seats.specs.Promise.{among, Agree}
 use Rattle.seats.specs.Refusal.{refusal}
-use Rattle.seats.specs.Seat.{Seat, fresh, reached, used, free}
+use Rattle.seats.specs.Seat.{Seat, fresh, reached, used}
 use Rattle.seats.specs.Step.{act, both, need_one, need_two, need_of, reads_of, served, unless, play}
 use Rattle.seats.proofs.Names.{eqb_not, or_none_lem, among_head, among_rest}
 use Rattle.seats.proofs.Refusal.{below_8, different, enough, refusal_agree, refusal_more}

@@ -9,7 +9,8 @@ use native.Mathlib.Omega.{arith}
 use lib.Dec.{leb}
 use Rattle.grid.specs.Node.{put}
 use Rattle.grid.proofs.Places.{put_at}
-use Rattle.seats.specs.Call.{Lookup, Sign, Remove, Insert, Fill, Cut, Clear, Prune, Flip, FillSigns, IsEmpty, Copy, Combine, Call, One, Two, Prepare, Count, names, Answer, refused, found, negative_is, empty_is, free_cells, done}
+use Rattle.seats.specs.Call.{Lookup, Sign, Remove, Insert, Fill, Cut, Clear, Prune, Flip, FillSigns, IsEmpty, Copy, Combine}
+use Rattle.seats.specs.Call.{Call, One, Two, Prepare, Count, names, Answer, refused, found, negative_is, empty_is, free_cells, done}
 use Rattle.seats.specs.Promise.{among, Agree, Verdict, refuse, give, turn, loose, Accepted, Memory, grants, refuse_or, verdict, Keeps, Promise, OneState}
 use Rattle.seats.specs.Refusal.{any, refusal}
 use Rattle.seats.specs.Seat.{Seat, State, prepared, used, free}
@@ -81,7 +82,7 @@ module _ (b : ℕ) (bs : List ℕ) (𝓜 : Memory b bs) where
     granted : (c : Call) → ((i : ℕ) → among i (names c) ≡ true → i < 8) → Meets (f m s) (grants b bs 𝓜 c m) (served b bs c (f m s) (k m s))
     unfolding served act both f k
     granted (One i (Lookup p)) l = reads_only i (ap found (𝓜.lookup_is m s i (l i (among_head i [])) p))
-    granted (One i (Sign p)) l = reads_only i (ap negative_is (𝓜.negative_is m s i (l i (among_head i [])) p))
+    granted (One i (Sign p)) l = reads_only i (ap negative_is (𝓜.negative_is_lem m s i (l i (among_head i [])) p))
     granted (One i (Remove p)) l = rw (base m s).sound refl
     granted (One i (Insert p v)) l = rw (base m s).sound refl
     granted (One i (Fill v)) l = refl

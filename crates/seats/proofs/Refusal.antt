@@ -45,7 +45,7 @@ first_is P (row ∷ rows) r c n h e = go (row.1 r c) refl e (first_is P rows r c
 pub refusal_number : (r : Reads) (c : Call) (n : ℕ) → refusal r c ≡ some n → 0 < n
 refusal_number r c n =
     first_is (λ k. 0 < k) order r c n
-    ((λ _. omega arith), ((λ _. omega arith), ((λ _. omega arith), ((λ _. omega arith), ((λ _. omega arith), ((λ _. omega arith), ((λ _. omega arith), ((λ _. omega arith), ((λ _. omega arith), tt)))))))))
+    (λ _. omega arith, (λ _. omega arith, (λ _. omega arith, (λ _. omega arith, (λ _. omega arith, (λ _. omega arith, (λ _. omega arith, (λ _. omega arith, (λ _. omega arith, tt)))))))))
 
 -- its seats are below 8 and two are different; it has the cells that it needs
 pub below_8 : (r : Reads) (c : Call) → refusal r c ≡ none → (i : ℕ) → among i (names c) ≡ true → i < 8

@@ -65,5 +65,6 @@ pub tabled :
     × (answers (pool 2) (One 0 (Fill 0) ∷ One 0 (Insert somewhere minus_zero) ∷ One 0 (Lookup somewhere) ∷ []) ≡ done ∷ done ∷ found (some 0) ∷ [])
     -- T11
     × (answers (pool 2) (One 8 (Insert somewhere nan) ∷ []) ≡ refused 2 ∷ [])
-unfolding answers step play served act need_one free used reached reach cells sum size prepared fresh clear fill lookup need_insert_s need_remove_s insert insert_s remove remove_s kept every is_hidden put changed slot_of total part masked is_finite equal eq of_bits
+unfolding answers step play served act need_one free used reached reach cells sum size prepared fresh clear fill lookup need_insert_s need_remove_s insert insert_s remove remove_s
+    kept every is_hidden put changed slot_of total part masked is_finite equal eq of_bits
 tabled = (refl, refl, refl, refl, refl, refl, refl, refl, refl, refl)

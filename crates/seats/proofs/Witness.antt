@@ -5,10 +5,7 @@ use mathlib.Core.Bool.{Bool, true, false}
 use mathlib.Core.List.{List, [], ◌∷◌}
 use Prim.Native.Nat.{ℕ, ◌≤◌}
 use native.Mathlib.Omega.{arith}
-use Rattle.floats.proofs.Words.{negative_is}
-use Rattle.grid.specs.Node.{size}
 use Rattle.grid.specs.Voxel.{lookup, sign_at}
-use Rattle.grid.specs.Whole.{cells, hollow}
 use Rattle.seats.specs.Call.{Call, Prepare, Answer, refused, done}
 use Rattle.seats.specs.Promise.{Verdict, refuse, give, turn, loose, Memory, verdict, Keeps, Event, Chain, Run}
 use Rattle.seats.specs.Refusal.{Reads}
@@ -52,7 +49,7 @@ module _ (b : ℕ) (bs : List ℕ) where
         is_sound = λ m e s. s;
         reads_is = λ m s c l. record { fit = refl; path = s; sound = s; filled = λ i a. refl; hollow = λ i a. refl; empty = λ i a. refl; need = refl; free = refl };
         lookup_is = λ m s i l p. refl;
-        negative_is = λ m s i l p. refl;
+        negative_is_lem = λ m s i l p. refl;
         proper_is = λ m s i l. m.proper i;
         all_is = λ m. refl;
         within = λ m s. m.enough;

@@ -2,9 +2,10 @@
 use Rattle.std.specs.Prelude.{◌≡◌, Bool, true, false, ◌||◌, cond, List, [], ◌∷◌, ℕ, ◌<◌, ◌≤◌, eqb}
 use Rattle.std.proofs.Math.Option.{Option, none, some}
 use Rattle.grid.specs.Geometry.{Point}
-use Rattle.grid.specs.Node.{size, Proper}
+use Rattle.grid.specs.Node.{Proper}
 use Rattle.grid.specs.Voxel.{lookup, sign_at}
-use Rattle.seats.specs.Call.{Lookup, Sign, Remove, Insert, Fill, Cut, Clear, Prune, Flip, FillSigns, IsEmpty, Call, One, Two, Prepare, Count, names, Answer, refused, found, negative_is, empty_is, free_cells, done}
+use Rattle.seats.specs.Call.{Lookup, Sign, Remove, Insert, Fill, Cut, Clear, Prune, Flip, FillSigns, IsEmpty}
+use Rattle.seats.specs.Call.{Call, One, Two, Prepare, Count, names, Answer, refused, found, negative_is, empty_is, free_cells, done}
 use Rattle.seats.specs.Refusal.{Reads, refusal}
 use Rattle.seats.specs.Seat.{State, used, free}
 use Rattle.seats.specs.Step.{reads_of, step}
@@ -58,10 +59,10 @@ module _ (b : ℕ) (bs : List ℕ) where
     pub is_sound : (m : Mem) → (reads m).fit ≡ true → (reads m).sound ≡ true → Sound m
     pub reads_is : (m : Mem) → Sound m → (c : Call) → ((i : ℕ) → among i (names c) ≡ true → i < 8) → Agree c (reads m) (reads_of b bs (state m).seat (free b bs (state m)))
     pub lookup_is : (m : Mem) → Sound m → (i : ℕ) → i < 8 → (p : Point) → lookup_at i p m ≡ lookup (b ∷ bs) ((state m).seat i).grid p
-    pub negative_is : (m : Mem) → Sound m → (i : ℕ) → i < 8 → (p : Point) → negative_at i p m ≡ sign_at (b ∷ bs) ((state m).seat i).grid p
+    pub negative_is_lem : (m : Mem) → Sound m → (i : ℕ) → i < 8 → (p : Point) → negative_at i p m ≡ sign_at (b ∷ bs) ((state m).seat i).grid p
     pub proper_is : (m : Mem) → Sound m → (i : ℕ) → i < 8 → Proper (b ∷ bs) ((state m).seat i).grid
     pub all_is : (m : Mem) → (state m).all ≡ size (lens m)
-    -- "Free cells plus cells reached equals all cells": with reads-is, of every sound pool
+    -- "Free cells plus cells reached equals all cells": with reads_is, of every sound pool
     pub within : (m : Mem) → Sound m → used b bs (state m).seat ≤ (state m).all
 
   module _ (𝓜 : Memory) where

@@ -8,7 +8,8 @@ use Rattle.grid.specs.Node.{put}
 use Rattle.grid.specs.SignFill.{fill_signs}
 use Rattle.grid.specs.Voxel.{lookup, sign_at, insert, remove, need_insert_s, need_remove_s}
 use Rattle.grid.specs.Whole.{fill, prune_s, cut_s, flip, is_empty, has_hollow}
-use Rattle.seats.specs.Call.{Act, Lookup, Sign, Remove, Insert, Fill, Cut, Clear, Prune, Flip, FillSigns, IsEmpty, Pair, Copy, Combine, Call, One, Two, Prepare, Count, Answer, refused, found, negative_is, empty_is, free_cells, done}
+use Rattle.seats.specs.Call.{Act, Lookup, Sign, Remove, Insert, Fill, Cut, Clear, Prune, Flip, FillSigns, IsEmpty, Pair, Copy, Combine}
+use Rattle.seats.specs.Call.{Call, One, Two, Prepare, Count, Answer, refused, found, negative_is, empty_is, free_cells, done}
 use Rattle.seats.specs.Refusal.{Reads, refusal}
 use Rattle.seats.specs.Seat.{Seat, State, unmarked, marked, fresh, reached, free}
 
