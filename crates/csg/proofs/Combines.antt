@@ -1,7 +1,7 @@
 -- Two nodes of a sound pool joined, by what the code does at each slot: where they stand, what their two slots are, what may be called. Assumes nothing.
 use mathlib.Core.Path.{◌≡◌, refl, sym, ap, ap₂, ◌∙◌, subst}
 use mathlib.Core.Bool.{Bool, true, false, not, cond, beq}
-use mathlib.Core.List.{List, [], ◌∷◌}
+use mathlib.Core.List.{List, []}
 use mathlib.Core.Logic.{◌≢◌}
 use Prim.Native.Nat.{ℕ, zero, suc, ◌+◌, ◌-◌, ◌*◌, ◌<◌, ◌≤◌}
 use native.Mathlib.Omega.{arith}
@@ -11,9 +11,6 @@ use borrow.Author.Tests.{not-true, not-false}
 use Rattle.floats.specs.Value.{is_finite, negative, far_with}
 use Rattle.grid.specs.Combine.{Operation, stays_with, settled_by}
 use Rattle.grid.specs.Node.{Node, size}
-use types.Run.{OneOf, miss}
-use denote.Enum.Declared.{tag_of}
-use Rattle.nodes.specs.contracts.walk.Slot.{the_type}
 use Rattle.nodes.specs.State.{St, Sound}
 use Rattle.nodes.specs.Layout.{Sized, st, word_of, kid_bit}
 use Rattle.nodes.specs.Each.{each_s}
@@ -80,11 +77,11 @@ module _ {n x k : ℕ} (l : ℕ) (slots masks : List ℕ) (i : In n x k) (p : 0 
     pub view_branch : {c : ℕ} → t ≡ Branch c → true ≡ bit_of masks (kid_bit x k)
     view_branch f = sym (ap is_branch f) ∙ ap is_branch e ∙ bit
 
-    pub view_else : OneOf (1 ∷ 2 ∷ []) (tag_of the_type t) → false ≡ bit_of masks (kid_bit x k)
+    pub view_else : ((c : ℕ) → t ≡ Branch c → ⊥) → false ≡ bit_of masks (kid_bit x k)
     view_else h = none t h ∙ ap is_branch e ∙ bit
       where
-        none : (t : Slot) → OneOf (1 ∷ 2 ∷ []) (tag_of the_type t) → false ≡ is_branch t
-        none (Branch c) h = absurd (miss (1 ∷ 2 ∷ []) 0 tt h)
+        none : (t : Slot) → ((c : ℕ) → t ≡ Branch c → ⊥) → false ≡ is_branch t
+        none (Branch c) h = absurd (h c refl)
         none (Tile w) h = refl
         none (Hidden w) h = refl
 

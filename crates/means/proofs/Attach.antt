@@ -9,7 +9,7 @@ use borrow.Author.Tests.{lt-ltb, le-leb}
 use Rattle.floats.specs.Value.{is_finite}
 use Rattle.nodes.specs.State.{St, wide, linked, Live, Fork, Free, Held, Stacked, Link, Sound}
 use Rattle.nodes.specs.Change.{in_cell, next, attach_s}
-use Rattle.nodes.specs.Walk.{below, ready_s}
+use Rattle.nodes.specs.Walk.{ready_s}
 use Rattle.means.specs.Level.{Equal}
 use Rattle.means.proofs.Levels.{wide_cell, tag_of, fork_live, kept_live, kept_fork, kept_held}
 use Rattle.means.proofs.Put.{at1_here, at1_else, at2_here, at2_else, at2_next, in_cell_lem, in_else}

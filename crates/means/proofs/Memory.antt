@@ -126,9 +126,9 @@ module _ (m : Mem) (s : SoundMem m) where
     unfolding walk
     lookup_is = walks.lookup_right (cells_of m) (pool_of m) p s.1 2 i top ∙ ap (λ g. lookup (3 ∷ 2 ∷ 2 ∷ []) g p) same
 
-    pub negative_is : negative_in i p m ≡ sign_at (3 ∷ 2 ∷ 2 ∷ []) (seat_of m i).grid p
+    pub negative_is_lem : negative_in i p m ≡ sign_at (3 ∷ 2 ∷ 2 ∷ []) (seat_of m i).grid p
     unfolding walk
-    negative_is = walks.sign_right (cells_of m) (pool_of m) p s.1 2 i top ∙ ap (λ g. sign_at (3 ∷ 2 ∷ 2 ∷ []) g p) same
+    negative_is_lem = walks.sign_right (cells_of m) (pool_of m) p s.1 2 i top ∙ ap (λ g. sign_at (3 ∷ 2 ∷ 2 ∷ []) g p) same
 
     need_insert : (w : ℕ) → need_insert_r (walk m i p) w ≡ need_one 3 (2 ∷ 2 ∷ []) (Insert p w) (seat_of m i)
     unfolding walk need_one

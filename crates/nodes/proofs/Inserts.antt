@@ -1,16 +1,12 @@
 -- An insert, by what the code does at each slot. Assumes nothing.
 use mathlib.Core.Path.{◌≡◌, refl, sym, ap, ◌∙◌, subst}
 use mathlib.Core.Bool.{Bool, true, false, cond, ◌&&◌}
-use mathlib.Core.List.{[], ◌∷◌}
 use Prim.Native.Nat.{ℕ, zero, suc, ◌+◌, ◌-◌, ◌<◌, ◌≤◌}
 use native.Mathlib.Omega.{arith}
 use lib.Dec.{ltb, leb}
 use borrow.Author.Tests.{lt-ltb, le-ltb, ltb-true}
 use Rattle.floats.specs.Value.{far}
 use Rattle.grid.specs.Geometry.{Point, slot_of}
-use types.Run.{OneOf, miss}
-use denote.Enum.Declared.{tag_of}
-use Rattle.nodes.specs.contracts.walk.Slot.{the_type}
 use Rattle.nodes.specs.State.{St}
 use Rattle.nodes.specs.Change.{put_s, attach_s, next}
 use Rattle.nodes.specs.Insert.{open_s, open_r, grow_s, grow_r, step_s, step_r, onward}
@@ -42,10 +38,10 @@ module _ (n x k : ℕ) (s : St) where
   unfolding open_r open_s
   open_out {t} {c} e h = (sym (ap (open_r n s) e ∙ rw (le-ltb c n h) refl), sym (ap (open_s n x k s) e))
 
-  pub open_else : (t : Slot) {v : ℕ} {r : Below} {s' : St} → OneOf (1 ∷ 2 ∷ []) (tag_of the_type t) → v ≡ far → r ≡ grow_r n s → s' ≡ grow_s n x k v false s
+  pub open_else : (t : Slot) {v : ℕ} {r : Below} {s' : St} → ((c : ℕ) → t ≡ Branch c → ⊥) → v ≡ far → r ≡ grow_r n s → s' ≡ grow_s n x k v false s
       → (r ≡ open_r n s t) × (s' ≡ open_s n x k s t)
   unfolding open_r open_s
-  open_else (Branch c) h f a b = absurd (miss (1 ∷ 2 ∷ []) 0 tt h)
+  open_else (Branch c) h f a b = absurd (h c refl)
   open_else (Tile u) h f a b = (a, b ∙ ap (λ (v : ℕ). grow_s n x k v false s) f)
   open_else (Hidden u) h f a b = (a, b ∙ ap (λ (v : ℕ). grow_s n x k v false s) f)
 
@@ -53,10 +49,10 @@ abbrev pub Done : ℕ → ℕ → ℕ → ℕ → St → Slot → Below → St �
 Done n w x k s t r s' = (r ≡ step_r n w s t) × (s' ≡ step_s n w x k s t)
 
 module _ (n w x k : ℕ) (s : St) where
-  pub step_open : (t : Slot) {r : Below} {s' : St} → OneOf (0 ∷ 2 ∷ []) (tag_of the_type t) → r ≡ open_r n s t → s' ≡ open_s n x k s t → Done n w x k s t r s'
+  pub step_open : (t : Slot) {r : Below} {s' : St} → ((u : ℕ) → t ≡ Tile u → ⊥) → r ≡ open_r n s t → s' ≡ open_s n x k s t → Done n w x k s t r s'
   unfolding open_r open_s step_r step_s
   step_open (Branch c) h a b = (a, b)
-  step_open (Tile u) h a b = absurd (miss (0 ∷ 2 ∷ []) 1 tt h)
+  step_open (Tile u) h a b = absurd (h u refl)
   step_open (Hidden u) h a b = (a, b)
 
   pub step_same : {t : Slot} {u : ℕ} {b : Bool} → t ≡ Tile u → b ≡ stays u w → b ≡ true → Done n w x k s t Stop s

@@ -1,7 +1,7 @@
 -- A remove, by what the code does at each slot and on the way back. Assumes nothing.
 use mathlib.Core.Path.{◌≡◌, refl, sym, ap, ap₂, ◌∙◌, subst}
 use mathlib.Core.Bool.{Bool, true, false, not, cond, ◌&&◌}
-use mathlib.Core.List.{List, [], ◌∷◌}
+use mathlib.Core.List.{List}
 use Prim.Native.Nat.{ℕ, zero, suc, ◌+◌, ◌-◌, ◌*◌, ◌<◌, ◌≤◌, ◌^◌}
 use native.Mathlib.Omega.{arith}
 use lib.ListN.{get_or}
@@ -13,9 +13,6 @@ use Rattle.bitset.proofs.Sets.{has_own}
 use Rattle.bitset.proofs.Words.{word_ext, zero_bit}
 use Rattle.floats.specs.Value.{is_finite}
 use Rattle.grid.specs.Geometry.{Point, slot_of}
-use types.Run.{OneOf, miss}
-use denote.Enum.Declared.{tag_of}
-use Rattle.nodes.specs.contracts.walk.Slot.{the_type}
 use Rattle.nodes.specs.State.{St}
 use Rattle.nodes.specs.Layout.{st, word_of, val_bit}
 use Rattle.nodes.specs.Change.{hide_s, release_s}
@@ -116,9 +113,9 @@ module _ (n : ℕ) where
   unfolding go_on_r
   go_out {t} {c} e h = sym (ap (go_on_r n) e ∙ rw (le-ltb c n h) refl)
 
-  pub go_else : (t : Slot) → OneOf (1 ∷ 2 ∷ []) (tag_of the_type t) → Stop ≡ go_on_r n t
+  pub go_else : (t : Slot) → ((c : ℕ) → t ≡ Branch c → ⊥) → Stop ≡ go_on_r n t
   unfolding go_on_r
-  go_else (Branch c) h = absurd (miss (1 ∷ 2 ∷ []) 0 tt h)
+  go_else (Branch c) h = absurd (h c refl)
   go_else (Tile u) h = refl
   go_else (Hidden u) h = refl
 
@@ -135,10 +132,10 @@ module _ (n x k : ℕ) (s : St) {t : Slot} where
     unfolding split_r split_s
     split_tile q a d = (a ∙ sym (ap (split_r n s) e ∙ rw (sym p ∙ q) refl), d ∙ sym (ap (split_s n x k s) e ∙ rw (sym p ∙ q) refl))
 
-pub split_other : (n x k : ℕ) (s : St) (t : Slot) {r : Below} → OneOf (0 ∷ 2 ∷ []) (tag_of the_type t) → r ≡ go_on_r n t → Parted n x k s t r s
+pub split_other : (n x k : ℕ) (s : St) (t : Slot) {r : Below} → ((u : ℕ) → t ≡ Tile u → ⊥) → r ≡ go_on_r n t → Parted n x k s t r s
 unfolding go_on_r split_r split_s
 split_other n x k s (Branch c) h a = (a, refl)
-split_other n x k s (Tile u) h a = absurd (miss (0 ∷ 2 ∷ []) 1 tt h)
+split_other n x k s (Tile u) h a = absurd (h u refl)
 split_other n x k s (Hidden u) h a = (a, refl)
 
 -- where a remove goes on, the cell is one of the pool's

@@ -3,7 +3,7 @@ use mathlib.Core.Path.{◌≡◌, refl, sym, ap, ap₂, ◌∙◌, subst}
 use mathlib.Core.Logic.{inl, inr}
 use mathlib.Core.Bool.{Bool, true, false, not, cond, ◌&&◌}
 use mathlib.Core.List.{List, [], ◌∷◌}
-use Prim.Native.Nat.{ℕ, zero, suc, ◌+◌, ◌-◌, ◌*◌, ◌<◌, ◌≤◌}
+use Prim.Native.Nat.{ℕ, zero, suc, ◌+◌, ◌*◌, ◌<◌, ◌≤◌}
 use native.Mathlib.Omega.{arith}
 use lib.ListN.{get_or}
 use lib.Dec.{ltb, eqb}
@@ -19,7 +19,6 @@ use Rattle.nodes.specs.State.{St}
 use Rattle.nodes.specs.Layout.{st, word_of}
 use Rattle.nodes.specs.Change.{at2, release_s}
 use Rattle.nodes.specs.Steps.{slot_s, cell_s, give_s, room_s}
-use Rattle.nodes.specs.Walk.{branching, below}
 use Rattle.nodes.specs.Each.{each_s}
 use Rattle.nodes.specs.Wipe.{drop_m, shed_m, wipe_at, wipe_m, emptied_m, empty_m, return_s, unlink_s}
 use Rattle.nodes.proofs.Places.{cell_in, cell_word}

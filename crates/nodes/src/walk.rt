@@ -9,7 +9,7 @@ ghost use Rattle.nodes.specs.Walk.{branching, below, point_of, closed_s, view_s,
 use super::{cells, geometry, memory};
 
 // What a slot is: a branch to a cell, or a word that is active or hidden.
-#[derive(Drop)]
+#[derive(Clone, Copy)]
 pub enum Slot {
     Branch(usize),
     Tile(u32),
@@ -54,7 +54,7 @@ fn stays(u: u32, w: u32) -> bool
 }
 
 // Where a walk goes on: in a cell, or nowhere.
-#[derive(Drop)]
+#[derive(Clone, Copy)]
 pub enum Below {
     Go(usize),
     Stop,

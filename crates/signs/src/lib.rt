@@ -1,2 +1,4 @@
 // The sign fill of a seat.
+#![tactic(auto)]
+
 pub mod fill;

@@ -2,13 +2,11 @@
 use mathlib.Core.Path.{◌≡◌, refl, sym, ap, ◌∙◌}
 use mathlib.Core.Logic.{inl, inr}
 use mathlib.Core.Bool.{Bool, true, false}
-use mathlib.Core.List.{List, [], ◌∷◌}
+use mathlib.Core.List.{List}
 use Prim.Native.Nat.{ℕ, ◌+◌, ◌<◌}
 use native.Mathlib.Omega.{arith}
 use lib.ListN.{set}
 use lib.Seq.{get_or-set_other}
-use types.Run.{OneOf, miss}
-use denote.Enum.Declared.{tag_of}
 use Rattle.floats.specs.Value.{far, far_with}
 use Rattle.nodes.specs.State.{St, linked}
 use Rattle.nodes.specs.Layout.{st, count_place, head}
@@ -22,7 +20,6 @@ use Rattle.trees.specs.Turn.{turn_m}
 use Rattle.trees.specs.declared.take.Join.{Join}
 use Rattle.trees.specs.declared.take.Join.TheVariants.{Union, Subtract, Intersect}
 use Rattle.trees.specs.declared.turn.Work.TheVariants.{Flip}
-use Rattle.trees.specs.contracts.take.Join.{the_type}
 
 pub tag_step : (n : ℕ) (bk sl mk : List ℕ) {c : ℕ} (x k : ℕ) → Booked n bk → c < n → st n sl mk (set bk (head + c) (linked x k)) ≡ tag_s c x k (st n sl mk bk)
 unfolding st tag_s
@@ -49,7 +46,7 @@ module _ (b : ℕ) (bs : List ℕ) (n x y k : ℕ) (s : St) {c : ℕ} {r : St} (
   pub take_flipped : {j : Join} {t : St} → j ≡ Subtract → t ≡ turn_m b bs Flip n (8 + c) r → t ≡ take_m b bs (join_o j) n x y k s
   take_flipped e q = q ∙ (λ z. turn_m b bs Flip n (8 + f z) (p z)) ∙ ap (λ (j : Join). take_m b bs (join_o j) n x y k s) (sym e)
 
-  pub take_plain : (j : Join) → OneOf (0 ∷ 2 ∷ []) (tag_of the_type j) → r ≡ take_m b bs (join_o j) n x y k s
+  pub take_plain : (j : Join) → (j ≡ Subtract → ⊥) → r ≡ take_m b bs (join_o j) n x y k s
   take_plain Union h = p
-  take_plain Subtract h = absurd (miss (0 ∷ 2 ∷ []) 1 tt h)
+  take_plain Subtract h = absurd (h refl)
   take_plain Intersect h = p

@@ -2,14 +2,12 @@
 use mathlib.Core.Path.{◌≡◌, refl, sym, ap, ap₂, ◌∙◌, subst}
 use mathlib.Core.Logic.{inl, inr}
 use mathlib.Core.Bool.{Bool, true, false, cond, not, ◌&&◌, ◌||◌, and_comm, or_comm}
-use mathlib.Core.List.{List, [], ◌∷◌}
+use mathlib.Core.List.{List}
 use Prim.Native.Nat.{ℕ, zero, suc, ◌+◌, ◌-◌, ◌*◌, ◌/◌, ◌%◌, ◌^◌, ◌<◌, ◌≤◌}
 use native.Mathlib.Omega.{arith}
 use lib.ListN.{length, get_or, set}
 use lib.Bits.{bit_and, bit_or}
 use lib.Dec.{ltb, eqb}
-use types.Run.{OneOf, miss}
-use denote.Enum.Declared.{tag_of}
 use borrow.Author.Tests.{lt-ltb, le-ltb, eq-eqb, ne_eqb}
 use Rattle.bitset.specs.Set.{bit_of, word_bit}
 use Rattle.bitset.proofs.Digits.{lt_or_le, is_or_not}
@@ -34,7 +32,6 @@ use Rattle.trees.specs.Slot.{child_r, word_s}
 use Rattle.trees.specs.Turn.{cuts, hide_if_s, flat_s, back_s, turn_at, turn_m}
 use Rattle.trees.specs.declared.turn.Work.{Work}
 use Rattle.trees.specs.declared.turn.Work.TheVariants.{Prune, Cut, Flip}
-use Rattle.trees.specs.contracts.turn.Work.{the_type}
 use Rattle.trees.proofs.Slots.{child_go, child_stop}
 use Rattle.trees.proofs.Copies.{word_at, dealt, dealt_none, dealt_left, dealt_more, dealt_values, blent, blent_none, blent_more, leaf_words, value_place}
 
@@ -79,14 +76,14 @@ module _ (w : Work) (bs : List ℕ) (n x k : ℕ) (s : St) where
   unfolding back_s
   back_flip e = sym (ap (λ (v : Work). back_s v bs n x k s) e)
 
-  pub back_shut : OneOf (0 ∷ 1 ∷ []) (tag_of the_type w) → {r : St} → r ≡ shut_m bs n x k s → r ≡ back_s w bs n x k s
+  pub back_shut : (w ≡ Flip → ⊥) → {r : St} → r ≡ shut_m bs n x k s → r ≡ back_s w bs n x k s
   unfolding back_s
   back_shut h {r} p = go w h
     where
-      go : (w : Work) → OneOf (0 ∷ 1 ∷ []) (tag_of the_type w) → r ≡ back_s w bs n x k s
+      go : (w : Work) → (w ≡ Flip → ⊥) → r ≡ back_s w bs n x k s
       go Prune h = p
       go (Cut t) h = p
-      go Flip h = absurd (miss (0 ∷ 1 ∷ []) 2 tt h)
+      go Flip h = absurd (h refl)
 
 -- ---- a slot above the leaves
 module _ (w : Work) (bs : List ℕ) (go : ℕ → St → St) (n x k : ℕ) (s : St) where

@@ -15,7 +15,7 @@ use nodes::memory::{HEAD, USED};
 use nodes::{cells, memory, wipe};
 
 // How tree b is joined into tree a.
-#[derive(Drop)]
+#[derive(Clone, Copy)]
 pub enum Join {
     Union,
     Subtract,

@@ -14,7 +14,7 @@ use nodes::walk::Below;
 use nodes::{geometry, memory, remove};
 
 // What is done to every slot of a node and of all that hangs below it.
-#[derive(Drop)]
+#[derive(Clone, Copy)]
 pub enum Work {
     Prune,
     Cut(Test),

@@ -1,0 +1,10 @@
+use native.Mathlib.Omega.{arith}
+use Rattle.nodes.proofs.Seeks.{path_made}
+use Rattle.nodes.proofs.geometry.path.Goals as goal
+
+pub returns : goal.returns
+returns c =
+    let a = c.slot.ensures in
+    let b = c.slot-2.ensures in
+    let d = c.slot-3.ensures in
+    (path_made _ a.0 b.0 d.0, omega (arith, a.1, b.1, d.1))

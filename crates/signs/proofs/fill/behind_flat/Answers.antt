@@ -1,0 +1,15 @@
+use Rattle.nodes.proofs.States.{word_may, val_may}
+use Rattle.signs.proofs.SignAt.{behind_active, behind_hidden}
+use Rattle.signs.proofs.fill.behind_flat.Goals as goal
+
+pub val-requires : goal.val-requires
+val-requires c = val_may c.requires.0 c.requires.1
+
+pub word-requires : goal.word-requires
+word-requires c = word_may c.requires.0 c.requires.1
+
+pub returns-then-val : goal.returns-then-val
+returns-then-val c = λ book. behind_active _ _ book c.requires.1 _ c.val.ensures c.if-val.true c.word.ensures c.negative_word.ensures
+
+pub returns : goal.returns
+returns c = λ book. behind_hidden _ _ book c.requires.1 _ c.val.ensures c.if-val.false
