@@ -1,5 +1,7 @@
 // The bit sets for callers in C, on numbers and slices: each call first tests what it was given, and one that is refused has changed no lent word. A slice is
-// a pointer and a count of words in C, and a size, an index, an offset or a count is a size_t.
+// a pointer and a count of words in C, and a size, an index, an offset or a count is a size_t. bitset_calls_c exports them under these names.
+#![tactic(auto)]
+
 ghost use Rattle.std.specs.Prelude.{◌≡◌, false, cond, not, ◌&&◌, ◌||◌, ◌+◌, ◌-◌, ◌*◌, ◌/◌, length, eqb, leb, ltb};
 ghost use Rattle.std.specs.Bool.{xor};
 ghost use Rattle.bitset.specs.Set.{weight, word_bit, bit_of, up, down, empty, full, same};
@@ -85,8 +87,7 @@ fn word_answer(found: MaybeWord) -> BitsAnswer
 }
 
 // Every word becomes value, unused bits too.
-#[unsafe(no_mangle)]
-pub extern "C" fn yoldrick_bits_with(ws: &mut [u64], n: usize, value: u64) -> BitsAnswer
+pub fn yoldrick_bits_with(ws: &mut [u64], n: usize, value: u64) -> BitsAnswer
     ensures { Writes (sized (length ws.old) n) (done 0) (λ k. ltb k (64 * length ws.old) && word_bit value k) ws.old ws.new result }
 {
     if sized(ws.len(), n) {
@@ -96,8 +97,7 @@ pub extern "C" fn yoldrick_bits_with(ws: &mut [u64], n: usize, value: u64) -> Bi
     REFUSED
 }
 
-#[unsafe(no_mangle)]
-pub extern "C" fn yoldrick_bits_zeroes(ws: &mut [u64], n: usize) -> BitsAnswer
+pub fn yoldrick_bits_zeroes(ws: &mut [u64], n: usize) -> BitsAnswer
     ensures { Writes (sized (length ws.old) n) (done 0) (λ k. false) ws.old ws.new result }
 {
     if sized(ws.len(), n) {
@@ -107,8 +107,7 @@ pub extern "C" fn yoldrick_bits_zeroes(ws: &mut [u64], n: usize) -> BitsAnswer
     REFUSED
 }
 
-#[unsafe(no_mangle)]
-pub extern "C" fn yoldrick_bits_ones(ws: &mut [u64], n: usize) -> BitsAnswer
+pub fn yoldrick_bits_ones(ws: &mut [u64], n: usize) -> BitsAnswer
     ensures { Writes (sized (length ws.old) n) (done 0) (λ k. ltb k (64 * length ws.old)) ws.old ws.new result }
 {
     if sized(ws.len(), n) {
@@ -118,8 +117,7 @@ pub extern "C" fn yoldrick_bits_ones(ws: &mut [u64], n: usize) -> BitsAnswer
     REFUSED
 }
 
-#[unsafe(no_mangle)]
-pub extern "C" fn yoldrick_bits_on_all(ws: &mut [u64], n: usize) -> BitsAnswer
+pub fn yoldrick_bits_on_all(ws: &mut [u64], n: usize) -> BitsAnswer
     ensures { Writes (sized (length ws.old) n) (done 0) (λ k. ltb k (64 * length ws.old)) ws.old ws.new result }
 {
     if sized(ws.len(), n) {
@@ -129,8 +127,7 @@ pub extern "C" fn yoldrick_bits_on_all(ws: &mut [u64], n: usize) -> BitsAnswer
     REFUSED
 }
 
-#[unsafe(no_mangle)]
-pub extern "C" fn yoldrick_bits_off_all(ws: &mut [u64], n: usize) -> BitsAnswer
+pub fn yoldrick_bits_off_all(ws: &mut [u64], n: usize) -> BitsAnswer
     ensures { Writes (sized (length ws.old) n) (done 0) (λ k. false) ws.old ws.new result }
 {
     if sized(ws.len(), n) {
@@ -141,8 +138,7 @@ pub extern "C" fn yoldrick_bits_off_all(ws: &mut [u64], n: usize) -> BitsAnswer
 }
 
 // The word at offset; nothing where a bit of it is not below n.
-#[unsafe(no_mangle)]
-pub extern "C" fn yoldrick_bits_word(ws: &[u64], n: usize, offset: usize) -> BitsAnswer
+pub fn yoldrick_bits_word(ws: &[u64], n: usize, offset: usize) -> BitsAnswer
     ensures { Reads (sized (length ws.now) n) (Word ws.now n offset result) result }
 {
     if sized(ws.len(), n) {
@@ -152,13 +148,7 @@ pub extern "C" fn yoldrick_bits_word(ws: &[u64], n: usize, offset: usize) -> Bit
 }
 
 // The word at offset becomes value; nothing, and no change, where a bit of it is not below n.
-#[unsafe(no_mangle)]
-pub extern "C" fn yoldrick_bits_put_word(
-    ws: &mut [u64],
-    n: usize,
-    offset: usize,
-    value: u64,
-) -> BitsAnswer
+pub fn yoldrick_bits_put_word(ws: &mut [u64], n: usize, offset: usize, value: u64) -> BitsAnswer
     ensures { Writes (sized (length ws.old) n) (stored (leb (64 * (offset + 1)) n)) (λ k. cond (leb (64 * (offset + 1)) n && eqb (k / 64) offset) (word_bit value k) (bit_of ws.old k)) ws.old ws.new result }
 {
     if sized(ws.len(), n) {
@@ -171,8 +161,7 @@ pub extern "C" fn yoldrick_bits_put_word(
 }
 
 // Of as many words as a set of n bits needs: how many bits of the last are unused.
-#[unsafe(no_mangle)]
-pub extern "C" fn yoldrick_bits_unused_bits(words: usize, n: usize) -> BitsAnswer
+pub fn yoldrick_bits_unused_bits(words: usize, n: usize) -> BitsAnswer
     ensures { Reads (sized words n) (result ≡ done (64 * words - n)) result }
 {
     if sized(words, n) {
@@ -185,8 +174,7 @@ pub extern "C" fn yoldrick_bits_unused_bits(words: usize, n: usize) -> BitsAnswe
 }
 
 // The bits of the last word that are in use.
-#[unsafe(no_mangle)]
-pub extern "C" fn yoldrick_bits_unused_mask(words: usize, n: usize) -> BitsAnswer
+pub fn yoldrick_bits_unused_mask(words: usize, n: usize) -> BitsAnswer
     ensures { Reads (sized words n) (Mask words n result) result }
 {
     if sized(words, n) {
@@ -199,8 +187,7 @@ pub extern "C" fn yoldrick_bits_unused_mask(words: usize, n: usize) -> BitsAnswe
 }
 
 // The word whose one bit is bit i's. Never refused.
-#[unsafe(no_mangle)]
-pub extern "C" fn yoldrick_bits_value_mask(i: usize) -> BitsAnswer
+pub fn yoldrick_bits_value_mask(i: usize) -> BitsAnswer
     ensures { result ≡ done (weight i) }
 {
     BitsAnswer {
@@ -209,8 +196,7 @@ pub extern "C" fn yoldrick_bits_value_mask(i: usize) -> BitsAnswer
     }
 }
 
-#[unsafe(no_mangle)]
-pub extern "C" fn yoldrick_bits_at(ws: &[u64], n: usize, i: usize) -> BitsAnswer
+pub fn yoldrick_bits_at(ws: &[u64], n: usize, i: usize) -> BitsAnswer
     ensures { Reads (has (length ws.now) n i) (result ≡ done (truth (bit_of ws.now i))) result }
 {
     if has(ws.len(), n, i) {
@@ -222,8 +208,7 @@ pub extern "C" fn yoldrick_bits_at(ws: &[u64], n: usize, i: usize) -> BitsAnswer
     REFUSED
 }
 
-#[unsafe(no_mangle)]
-pub extern "C" fn yoldrick_bits_is_on(ws: &[u64], n: usize, i: usize) -> BitsAnswer
+pub fn yoldrick_bits_is_on(ws: &[u64], n: usize, i: usize) -> BitsAnswer
     ensures { Reads (has (length ws.now) n i) (result ≡ done (truth (bit_of ws.now i))) result }
 {
     if has(ws.len(), n, i) {
@@ -235,8 +220,7 @@ pub extern "C" fn yoldrick_bits_is_on(ws: &[u64], n: usize, i: usize) -> BitsAns
     REFUSED
 }
 
-#[unsafe(no_mangle)]
-pub extern "C" fn yoldrick_bits_is_off(ws: &[u64], n: usize, i: usize) -> BitsAnswer
+pub fn yoldrick_bits_is_off(ws: &[u64], n: usize, i: usize) -> BitsAnswer
     ensures { Reads (has (length ws.now) n i) (result ≡ done (truth (not (bit_of ws.now i)))) result }
 {
     if has(ws.len(), n, i) {
@@ -249,8 +233,7 @@ pub extern "C" fn yoldrick_bits_is_off(ws: &[u64], n: usize, i: usize) -> BitsAn
 }
 
 // Bit i becomes value: 0 is off, and any other number on.
-#[unsafe(no_mangle)]
-pub extern "C" fn yoldrick_bits_set(ws: &mut [u64], n: usize, i: usize, value: u32) -> BitsAnswer
+pub fn yoldrick_bits_set(ws: &mut [u64], n: usize, i: usize, value: u32) -> BitsAnswer
     ensures { Writes (has (length ws.old) n i) (done 0) (λ k. cond (eqb k i) (not (eqb value 0)) (bit_of ws.old k)) ws.old ws.new result }
 {
     if has(ws.len(), n, i) {
@@ -260,8 +243,7 @@ pub extern "C" fn yoldrick_bits_set(ws: &mut [u64], n: usize, i: usize, value: u
     REFUSED
 }
 
-#[unsafe(no_mangle)]
-pub extern "C" fn yoldrick_bits_on(ws: &mut [u64], n: usize, i: usize) -> BitsAnswer
+pub fn yoldrick_bits_on(ws: &mut [u64], n: usize, i: usize) -> BitsAnswer
     ensures { Writes (has (length ws.old) n i) (done 0) (λ k. eqb k i || bit_of ws.old k) ws.old ws.new result }
 {
     if has(ws.len(), n, i) {
@@ -271,8 +253,7 @@ pub extern "C" fn yoldrick_bits_on(ws: &mut [u64], n: usize, i: usize) -> BitsAn
     REFUSED
 }
 
-#[unsafe(no_mangle)]
-pub extern "C" fn yoldrick_bits_off(ws: &mut [u64], n: usize, i: usize) -> BitsAnswer
+pub fn yoldrick_bits_off(ws: &mut [u64], n: usize, i: usize) -> BitsAnswer
     ensures { Writes (has (length ws.old) n i) (done 0) (λ k. not (eqb k i) && bit_of ws.old k) ws.old ws.new result }
 {
     if has(ws.len(), n, i) {
@@ -283,8 +264,7 @@ pub extern "C" fn yoldrick_bits_off(ws: &mut [u64], n: usize, i: usize) -> BitsA
 }
 
 // The first bit below n that is on, or nothing.
-#[unsafe(no_mangle)]
-pub extern "C" fn yoldrick_bits_find_first_on(ws: &[u64], n: usize) -> BitsAnswer
+pub fn yoldrick_bits_find_first_on(ws: &[u64], n: usize) -> BitsAnswer
     ensures { Reads (sized (length ws.now) n) (First ws.now n result) result }
 {
     if sized(ws.len(), n) {
@@ -293,8 +273,7 @@ pub extern "C" fn yoldrick_bits_find_first_on(ws: &[u64], n: usize) -> BitsAnswe
     REFUSED
 }
 
-#[unsafe(no_mangle)]
-pub extern "C" fn yoldrick_bits_len(ws: &[u64], n: usize) -> BitsAnswer
+pub fn yoldrick_bits_len(ws: &[u64], n: usize) -> BitsAnswer
     ensures { Reads (sized (length ws.now) n) (result ≡ done n) result }
 {
     if sized(ws.len(), n) {
@@ -306,8 +285,7 @@ pub extern "C" fn yoldrick_bits_len(ws: &[u64], n: usize) -> BitsAnswer
     REFUSED
 }
 
-#[unsafe(no_mangle)]
-pub extern "C" fn yoldrick_bits_is_empty(ws: &[u64], n: usize) -> BitsAnswer
+pub fn yoldrick_bits_is_empty(ws: &[u64], n: usize) -> BitsAnswer
     ensures { Reads (sized (length ws.now) n) (result ≡ done (truth (empty ws.now n))) result }
 {
     if sized(ws.len(), n) {
@@ -319,8 +297,7 @@ pub extern "C" fn yoldrick_bits_is_empty(ws: &[u64], n: usize) -> BitsAnswer
     REFUSED
 }
 
-#[unsafe(no_mangle)]
-pub extern "C" fn yoldrick_bits_is_full(ws: &[u64], n: usize) -> BitsAnswer
+pub fn yoldrick_bits_is_full(ws: &[u64], n: usize) -> BitsAnswer
     ensures { Reads (sized (length ws.now) n) (result ≡ done (truth (full ws.now n))) result }
 {
     if sized(ws.len(), n) {
@@ -333,8 +310,7 @@ pub extern "C" fn yoldrick_bits_is_full(ws: &[u64], n: usize) -> BitsAnswer
 }
 
 // a and b have the same bits below n.
-#[unsafe(no_mangle)]
-pub extern "C" fn yoldrick_bits_eq(a: &[u64], b: &[u64], n: usize) -> BitsAnswer
+pub fn yoldrick_bits_eq(a: &[u64], b: &[u64], n: usize) -> BitsAnswer
     ensures { Reads (pair (length a.now) (length b.now) n) (result ≡ done (truth (same a.now b.now n))) result }
 {
     if pair(a.len(), b.len(), n) {
@@ -347,8 +323,7 @@ pub extern "C" fn yoldrick_bits_eq(a: &[u64], b: &[u64], n: usize) -> BitsAnswer
 }
 
 // a becomes a and b, bit by bit.
-#[unsafe(no_mangle)]
-pub extern "C" fn yoldrick_bits_and_assign(a: &mut [u64], b: &[u64], n: usize) -> BitsAnswer
+pub fn yoldrick_bits_and_assign(a: &mut [u64], b: &[u64], n: usize) -> BitsAnswer
     ensures { Writes (pair (length a.old) (length b.now) n) (done 0) (λ k. bit_of a.old k && bit_of b.now k) a.old a.new result }
 {
     if pair(a.len(), b.len(), n) {
@@ -358,8 +333,7 @@ pub extern "C" fn yoldrick_bits_and_assign(a: &mut [u64], b: &[u64], n: usize) -
     REFUSED
 }
 
-#[unsafe(no_mangle)]
-pub extern "C" fn yoldrick_bits_or_assign(a: &mut [u64], b: &[u64], n: usize) -> BitsAnswer
+pub fn yoldrick_bits_or_assign(a: &mut [u64], b: &[u64], n: usize) -> BitsAnswer
     ensures { Writes (pair (length a.old) (length b.now) n) (done 0) (λ k. bit_of a.old k || bit_of b.now k) a.old a.new result }
 {
     if pair(a.len(), b.len(), n) {
@@ -369,8 +343,7 @@ pub extern "C" fn yoldrick_bits_or_assign(a: &mut [u64], b: &[u64], n: usize) ->
     REFUSED
 }
 
-#[unsafe(no_mangle)]
-pub extern "C" fn yoldrick_bits_xor_assign(a: &mut [u64], b: &[u64], n: usize) -> BitsAnswer
+pub fn yoldrick_bits_xor_assign(a: &mut [u64], b: &[u64], n: usize) -> BitsAnswer
     ensures { Writes (pair (length a.old) (length b.now) n) (done 0) (λ k. xor (bit_of a.old k) (bit_of b.now k)) a.old a.new result }
 {
     if pair(a.len(), b.len(), n) {
@@ -381,8 +354,7 @@ pub extern "C" fn yoldrick_bits_xor_assign(a: &mut [u64], b: &[u64], n: usize) -
 }
 
 // out becomes a and b, bit by bit; what it held does not matter.
-#[unsafe(no_mangle)]
-pub extern "C" fn yoldrick_bits_and(a: &[u64], b: &[u64], out: &mut [u64], n: usize) -> BitsAnswer
+pub fn yoldrick_bits_and(a: &[u64], b: &[u64], out: &mut [u64], n: usize) -> BitsAnswer
     ensures { Writes (triple (length out.old) (length a.now) (length b.now) n) (done 0) (λ k. bit_of a.now k && bit_of b.now k) out.old out.new result }
 {
     if triple(out.len(), a.len(), b.len(), n) {
@@ -392,8 +364,7 @@ pub extern "C" fn yoldrick_bits_and(a: &[u64], b: &[u64], out: &mut [u64], n: us
     REFUSED
 }
 
-#[unsafe(no_mangle)]
-pub extern "C" fn yoldrick_bits_or(a: &[u64], b: &[u64], out: &mut [u64], n: usize) -> BitsAnswer
+pub fn yoldrick_bits_or(a: &[u64], b: &[u64], out: &mut [u64], n: usize) -> BitsAnswer
     ensures { Writes (triple (length out.old) (length a.now) (length b.now) n) (done 0) (λ k. bit_of a.now k || bit_of b.now k) out.old out.new result }
 {
     if triple(out.len(), a.len(), b.len(), n) {
@@ -403,8 +374,7 @@ pub extern "C" fn yoldrick_bits_or(a: &[u64], b: &[u64], out: &mut [u64], n: usi
     REFUSED
 }
 
-#[unsafe(no_mangle)]
-pub extern "C" fn yoldrick_bits_xor(a: &[u64], b: &[u64], out: &mut [u64], n: usize) -> BitsAnswer
+pub fn yoldrick_bits_xor(a: &[u64], b: &[u64], out: &mut [u64], n: usize) -> BitsAnswer
     ensures { Writes (triple (length out.old) (length a.now) (length b.now) n) (done 0) (λ k. xor (bit_of a.now k) (bit_of b.now k)) out.old out.new result }
 {
     if triple(out.len(), a.len(), b.len(), n) {
@@ -415,8 +385,7 @@ pub extern "C" fn yoldrick_bits_xor(a: &[u64], b: &[u64], out: &mut [u64], n: us
 }
 
 // out becomes the bits that are not in a, unused ones too.
-#[unsafe(no_mangle)]
-pub extern "C" fn yoldrick_bits_not(a: &[u64], out: &mut [u64], n: usize) -> BitsAnswer
+pub fn yoldrick_bits_not(a: &[u64], out: &mut [u64], n: usize) -> BitsAnswer
     ensures { Writes (pair (length out.old) (length a.now) n) (done 0) (λ k. ltb k (64 * length out.old) && not (bit_of a.now k)) out.old out.new result }
 {
     if pair(out.len(), a.len(), n) {
@@ -427,8 +396,7 @@ pub extern "C" fn yoldrick_bits_not(a: &[u64], out: &mut [u64], n: usize) -> Bit
 }
 
 // Bit k + s moves to k: towards bit 0.
-#[unsafe(no_mangle)]
-pub extern "C" fn yoldrick_bits_shl(ws: &mut [u64], n: usize, s: u32) -> BitsAnswer
+pub fn yoldrick_bits_shl(ws: &mut [u64], n: usize, s: u32) -> BitsAnswer
     ensures { Writes (sized (length ws.old) n) (done 0) (λ k. down ws.old n s k) ws.old ws.new result }
 {
     if sized(ws.len(), n) {
@@ -439,8 +407,7 @@ pub extern "C" fn yoldrick_bits_shl(ws: &mut [u64], n: usize, s: u32) -> BitsAns
 }
 
 // Bit k moves to k + s: away from bit 0.
-#[unsafe(no_mangle)]
-pub extern "C" fn yoldrick_bits_shr(ws: &mut [u64], n: usize, s: u32) -> BitsAnswer
+pub fn yoldrick_bits_shr(ws: &mut [u64], n: usize, s: u32) -> BitsAnswer
     ensures { Writes (sized (length ws.old) n) (done 0) (λ k. ltb k (64 * length ws.old) && up ws.old s k) ws.old ws.new result }
 {
     if sized(ws.len(), n) {

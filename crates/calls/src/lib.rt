@@ -1,5 +1,8 @@
 // The calls for C, on the three lent slices of a pool. Each takes numbers and slices alone and asks nothing of its caller: what does not fit is refused, and a refused
-// call has changed no lent word. A slice is a pointer and a count of elements in C, and a point is three signed coordinates, of which the low 7 bits count.
+// call has changed no lent word. A slice is a pointer and a count of elements in C, and a point is three signed coordinates, of which the low 7 bits count. calls_c exports
+// them under these names.
+#![tactic(auto)]
+
 ghost use Rattle.std.specs.Prelude.{◌≡◌};
 ghost use Rattle.floats.specs.declared.Test.TheVariants.{Below, Above, Between};
 ghost use Rattle.grid.specs.Combine.{union, subtract, intersect};
@@ -96,8 +99,7 @@ fn told(whether: Whether) -> GridNumber
 }
 
 // The lengths of the slices of a pool of so many cells. No memory is lent yet.
-#[unsafe(no_mangle)]
-pub extern "C" fn yoldrick_sizes(cells: u32) -> GridSizes
+pub fn yoldrick_sizes(cells: u32) -> GridSizes
     ensures { result ≡ sizes_of cells }
 {
     let n = cells as usize;
@@ -116,37 +118,28 @@ pub extern "C" fn yoldrick_sizes(cells: u32) -> GridSizes
 }
 
 // Every cell is freed and every seat emptied, whatever the memory held.
-#[unsafe(no_mangle)]
-pub extern "C" fn yoldrick_prepare(slots: &mut [u32], masks: &mut [u64], book: &mut [u32]) -> u32
+pub fn yoldrick_prepare(slots: &mut [u32], masks: &mut [u64], book: &mut [u32]) -> u32
     ensures { Answered Prepare (mem_of slots.old masks.old book.old) result (mem_of slots.new masks.new book.new) }
 {
     whole::prepare(slots, masks, book)
 }
 
 // The free cells of the pool.
-#[unsafe(no_mangle)]
-pub extern "C" fn yoldrick_free_cells(slots: &[u32], masks: &[u64], book: &[u32]) -> GridNumber
+pub fn yoldrick_free_cells(slots: &[u32], masks: &[u64], book: &[u32]) -> GridNumber
     ensures { Answered Count (mem_of slots.now masks.now book.now) result (mem_of slots.now masks.now book.now) }
 {
     counted(whole::count(slots, masks, book))
 }
 
 // Whether the seat has neither a branch nor an active tile.
-#[unsafe(no_mangle)]
-pub extern "C" fn yoldrick_is_empty(
-    slots: &[u32],
-    masks: &[u64],
-    book: &[u32],
-    seat: u32,
-) -> GridNumber
+pub fn yoldrick_is_empty(slots: &[u32], masks: &[u64], book: &[u32], seat: u32) -> GridNumber
     ensures { Answered (One seat IsEmpty) (mem_of slots.now masks.now book.now) result (mem_of slots.now masks.now book.now) }
 {
     told(whole::is_empty(slots, masks, book, seat))
 }
 
 // The value of the active tile or voxel at (x, y, z).
-#[unsafe(no_mangle)]
-pub extern "C" fn yoldrick_lookup(
+pub fn yoldrick_lookup(
     slots: &[u32],
     masks: &[u64],
     book: &[u32],
@@ -162,8 +155,7 @@ pub extern "C" fn yoldrick_lookup(
 }
 
 // Whether the value at (x, y, z), active or hidden, is negative, in a seat that is filled.
-#[unsafe(no_mangle)]
-pub extern "C" fn yoldrick_sign(
+pub fn yoldrick_sign(
     slots: &[u32],
     masks: &[u64],
     book: &[u32],
@@ -180,8 +172,7 @@ pub extern "C" fn yoldrick_sign(
 
 // The voxel at (x, y, z) becomes active with the value of these bits. They are not a float here, since the bits of a NaN are not kept by a float, and what is refused as
 // not finite is refused only after the lengths and the seat.
-#[unsafe(no_mangle)]
-pub extern "C" fn yoldrick_insert(
+pub fn yoldrick_insert(
     slots: &mut [u32],
     masks: &mut [u64],
     book: &mut [u32],
@@ -198,8 +189,7 @@ pub extern "C" fn yoldrick_insert(
 }
 
 // The voxel at (x, y, z) is no longer active, and a branch that this leaves empty is released.
-#[unsafe(no_mangle)]
-pub extern "C" fn yoldrick_remove(
+pub fn yoldrick_remove(
     slots: &mut [u32],
     masks: &mut [u64],
     book: &mut [u32],
@@ -215,8 +205,7 @@ pub extern "C" fn yoldrick_remove(
 }
 
 // Every voxel of the seat becomes active with the value of these bits, and its cells are free.
-#[unsafe(no_mangle)]
-pub extern "C" fn yoldrick_fill(
+pub fn yoldrick_fill(
     slots: &mut [u32],
     masks: &mut [u64],
     book: &mut [u32],
@@ -229,34 +218,21 @@ pub extern "C" fn yoldrick_fill(
 }
 
 // The seat is empty, and its cells are free.
-#[unsafe(no_mangle)]
-pub extern "C" fn yoldrick_clear(
-    slots: &mut [u32],
-    masks: &mut [u64],
-    book: &mut [u32],
-    seat: u32,
-) -> u32
+pub fn yoldrick_clear(slots: &mut [u32], masks: &mut [u64], book: &mut [u32], seat: u32) -> u32
     ensures { Answered (One seat Clear) (mem_of slots.old masks.old book.old) result (mem_of slots.new masks.new book.new) }
 {
     seat::change(slots, masks, book, seat, Task::Clear)
 }
 
 // Every empty branch of the seat is released.
-#[unsafe(no_mangle)]
-pub extern "C" fn yoldrick_prune(
-    slots: &mut [u32],
-    masks: &mut [u64],
-    book: &mut [u32],
-    seat: u32,
-) -> u32
+pub fn yoldrick_prune(slots: &mut [u32], masks: &mut [u64], book: &mut [u32], seat: u32) -> u32
     ensures { Answered (One seat Prune) (mem_of slots.old masks.old book.old) result (mem_of slots.new masks.new book.new) }
 {
     seat::change(slots, masks, book, seat, Task::Turn(Work::Prune))
 }
 
 // Every active value strictly below the bound is hidden, and what is then empty is released.
-#[unsafe(no_mangle)]
-pub extern "C" fn yoldrick_cut_below(
+pub fn yoldrick_cut_below(
     slots: &mut [u32],
     masks: &mut [u64],
     book: &mut [u32],
@@ -275,8 +251,7 @@ pub extern "C" fn yoldrick_cut_below(
 }
 
 // Every active value strictly above the bound is hidden, and what is then empty is released.
-#[unsafe(no_mangle)]
-pub extern "C" fn yoldrick_cut_above(
+pub fn yoldrick_cut_above(
     slots: &mut [u32],
     masks: &mut [u64],
     book: &mut [u32],
@@ -295,8 +270,7 @@ pub extern "C" fn yoldrick_cut_above(
 }
 
 // Every active value from one bound to the other, both included, is hidden, and what is then empty is released.
-#[unsafe(no_mangle)]
-pub extern "C" fn yoldrick_cut_between(
+pub fn yoldrick_cut_between(
     slots: &mut [u32],
     masks: &mut [u64],
     book: &mut [u32],
@@ -316,34 +290,21 @@ pub extern "C" fn yoldrick_cut_between(
 }
 
 // Every value of the seat, hidden ones too, has the other sign.
-#[unsafe(no_mangle)]
-pub extern "C" fn yoldrick_flip(
-    slots: &mut [u32],
-    masks: &mut [u64],
-    book: &mut [u32],
-    seat: u32,
-) -> u32
+pub fn yoldrick_flip(slots: &mut [u32], masks: &mut [u64], book: &mut [u32], seat: u32) -> u32
     ensures { Answered (One seat Flip) (mem_of slots.old masks.old book.old) result (mem_of slots.new masks.new book.new) }
 {
     seat::change(slots, masks, book, seat, Task::Turn(Work::Flip))
 }
 
 // Every hidden slot of the seat gets a sign, and the seat is filled.
-#[unsafe(no_mangle)]
-pub extern "C" fn yoldrick_fill_signs(
-    slots: &mut [u32],
-    masks: &mut [u64],
-    book: &mut [u32],
-    seat: u32,
-) -> u32
+pub fn yoldrick_fill_signs(slots: &mut [u32], masks: &mut [u64], book: &mut [u32], seat: u32) -> u32
     ensures { Answered (One seat FillSigns) (mem_of slots.old masks.old book.old) result (mem_of slots.new masks.new book.new) }
 {
     seat::change(slots, masks, book, seat, Task::Signs)
 }
 
 // The second seat becomes what the first is, in cells of its own.
-#[unsafe(no_mangle)]
-pub extern "C" fn yoldrick_copy(
+pub fn yoldrick_copy(
     slots: &mut [u32],
     masks: &mut [u64],
     book: &mut [u32],
@@ -356,22 +317,14 @@ pub extern "C" fn yoldrick_copy(
 }
 
 // Seat a becomes what is in a or in b, and b is empty.
-#[unsafe(no_mangle)]
-pub extern "C" fn yoldrick_union(
-    slots: &mut [u32],
-    masks: &mut [u64],
-    book: &mut [u32],
-    a: u32,
-    b: u32,
-) -> u32
+pub fn yoldrick_union(slots: &mut [u32], masks: &mut [u64], book: &mut [u32], a: u32, b: u32) -> u32
     ensures { Answered (Two (Combine union) a b) (mem_of slots.old masks.old book.old) result (mem_of slots.new masks.new book.new) }
 {
     pair::combine(slots, masks, book, a, b, Join::Union)
 }
 
 // Seat a becomes what is in a and not in b, and b is empty.
-#[unsafe(no_mangle)]
-pub extern "C" fn yoldrick_subtract(
+pub fn yoldrick_subtract(
     slots: &mut [u32],
     masks: &mut [u64],
     book: &mut [u32],
@@ -384,8 +337,7 @@ pub extern "C" fn yoldrick_subtract(
 }
 
 // Seat a becomes what is in both a and b, and b is empty.
-#[unsafe(no_mangle)]
-pub extern "C" fn yoldrick_intersect(
+pub fn yoldrick_intersect(
     slots: &mut [u32],
     masks: &mut [u64],
     book: &mut [u32],

@@ -27,7 +27,7 @@ use Rattle.voxels.specs.Lent.{lent}
 use Rattle.pool.proofs.Guards.{served_given}
 use Rattle.calls.specs.Forms.{answer_of, number, Answered}
 use Rattle.calls.specs.declared.GridAnswer.{GridAnswer}
-use Rattle.demands.specs.Rows.{Together, Row, lengths, pool, few}
+use Rattle.demands.specs.Rows.{Together, Row, lengths, pool, few, path, free as bad_free}
 use Rattle.demands.specs.Sequence.{Made, Sequence, left, FromPrepared}
 use Rattle.demands.specs.Shows.{shows, shows_nothing}
 use Rattle.demands.proofs.Agree.{counted_cells}
@@ -41,6 +41,8 @@ prepare_rows : (n : ℕ) (m : Mem) → Together n m → (k : ℕ) → Row k Prep
 prepare_rows n m t _ (lengths h) = h n t
 prepare_rows n m t _ (pool v q u) = q refl
 prepare_rows n m t _ (few l) = omega (arith, l)
+prepare_rows n m t _ (path v _) = elim v [ ]
+prepare_rows n m t _ (bad_free v _) = elim v [ ]
 
 pub prepares : (n : ℕ) (m m' : Mem) (r : ℕ) → Together n m → Answered Prepare m r m' → r ≡ 0
 prepares n m m' r t h = elim (serves Prepare m m' r h (prepare_rows n m t)) [

@@ -1,4 +1,6 @@
 // The customer's demands as theorems over the promises of the calls for C. The one function here is a witness: it makes a sequence of which demand 3 speaks.
+#![tactic(auto)]
+
 ghost use Rattle.std.specs.Prelude.{[], ◌∷◌, pos};
 ghost use Rattle.seats.specs.Call.{One, Insert, Lookup};
 ghost use Rattle.voxels.specs.Answers.{mem_of};

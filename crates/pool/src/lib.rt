@@ -1,4 +1,6 @@
 // The calls on the lent memory as a whole and on its seats, each with the tests that it makes first.
+#![tactic(auto)]
+
 pub mod guard;
 pub mod pair;
 pub mod seat;

@@ -15,7 +15,7 @@ use trees::turn::Work;
 use trees::{below, turn};
 
 // What is done to a whole seat.
-#[derive(Drop)]
+#[derive(Clone, Copy)]
 pub enum Task {
     Fill(u32),
     Clear,

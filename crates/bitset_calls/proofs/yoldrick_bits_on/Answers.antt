@@ -1,0 +1,12 @@
+use mathlib.Core.Path.{refl}
+use Rattle.bitset_calls.proofs.Laws.{has_index, wrote, unchanged}
+use Rattle.bitset_calls.proofs.yoldrick_bits_on.Goals as goal
+
+pub on-requires : goal.on-requires
+on-requires c = has_index _ _ _ c.has.ensures c.if-has.true
+
+pub returns-then-has : goal.returns-then-has
+returns-then-has c = wrote c.has.ensures c.if-has.true refl c.on.ensures
+
+pub returns : goal.returns
+returns c = unchanged c.has.ensures c.if-has.false refl refl
