@@ -1,9 +1,12 @@
 // Replays recorded answers of the Rust. data/steps has records of 24 bytes: the kind of the step (0 lookup, 1 insert, 2 remove, 3 fill, 4 clear), the seat, the code
 // owed, a 0, and then five words of 4 bytes, low byte first: x, y, z, the bits given and the bits owed. oracle/tests/records.rs made them from the Rust alone. The
 // program does each step on one pool and writes how many records there were, and how many were answered otherwise.
-ghost use Rattle.std.specs.Prelude.{◌+◌, ◌*◌, ◌<◌, ◌≤◌, length};
+#![tactic(auto)]
 
-use libc::STDOUT_FILENO;
+ghost use Rattle.std.specs.Prelude.{◌+◌, ◌*◌, ◌<◌, ◌≤◌, length, IfOk};
+
+use std::fs::{self, File};
+use std::io::{self, Read};
 
 // A wider type for the same number: no cast is then left to prove where it is used.
 fn wide32(x: u8) -> u32
@@ -124,30 +127,56 @@ pub struct Tally {
     pub more: bool,
 }
 
+// Reads until b is full or the file ends: how many bytes there were.
+fn filled(file: &mut File, b: &mut [u8]) -> io::Result<usize>
+    ensures { IfOk result (λ n. n ≤ length b.new) }
+{
+    let mut n: usize = 0;
+    while n < b.len() {
+        let k = file.read(&mut b[n..])?;
+        if k == 0 {
+            return Ok(n);
+        }
+        n += k;
+    }
+    Ok(n)
+}
+
 // One read of the records: the buffer has a whole number of them.
-fn some(fd: i32, slots: &mut [u32], masks: &mut [u64], book: &mut [u32], t: Tally) -> Tally {
+fn some(
+    file: &mut File,
+    slots: &mut [u32],
+    masks: &mut [u64],
+    book: &mut [u32],
+    t: Tally,
+) -> io::Result<Tally> {
     let mut b = [0u8; 24000];
-    let n = io::read_full(fd, &mut b);
+    let n = filled(file, &mut b)?;
     let k = n / 24;
     if k == 0 {
-        return Tally {
+        return Ok(Tally {
             seen: t.seen,
             bad: t.bad,
             more: false,
-        };
+        });
     }
     let d = steps(slots, masks, book, &b, k);
-    let s = std::num::wrapping_add_u64(t.seen, k as u64);
-    let e = std::num::wrapping_add_u64(t.bad, d);
-    Tally {
+    let s = t.seen.wrapping_add(k as u64);
+    let e = t.bad.wrapping_add(d);
+    Ok(Tally {
         seen: s,
         bad: e,
         more: true,
-    }
+    })
 }
 
 // Reads to the end of the file.
-fn all(fd: i32, slots: &mut [u32], masks: &mut [u64], book: &mut [u32]) -> Tally {
+fn all(
+    file: &mut File,
+    slots: &mut [u32],
+    masks: &mut [u64],
+    book: &mut [u32],
+) -> io::Result<Tally> {
     let mut t = Tally {
         seen: 0,
         bad: 0,
@@ -155,29 +184,21 @@ fn all(fd: i32, slots: &mut [u32], masks: &mut [u64], book: &mut [u32]) -> Tally
     };
     let mut turns: u64 = 1000000;
     while turns > 0 && t.more {
-        t = some(fd, slots, masks, book, t);
+        t = some(file, slots, masks, book, t)?;
         turns -= 1;
     }
-    t
+    Ok(t)
 }
 
 // The pool has 4096 cells: no turn of the records needs more than 3998.
-fn main() {
-    let fd = os::open_read(b"steps");
-    if fd < 0 {
-        os::fail(b"steps");
-        return;
-    }
+fn main(rt: HostRuntime) -> io::Result<()> {
+    let mut file = fs::open(&rt, "steps")?;
     let mut slots = [0u32; 266240];
     let mut masks = [0u64; 8320];
     let mut book = [0u32; 8201];
     if calls::yoldrick_prepare(&mut slots, &mut masks, &mut book) != 0 {
-        io::write_all(STDOUT_FILENO, b"not prepared\n");
-        return;
+        return println!(rt; "not prepared");
     }
-    let t = all(fd, &mut slots, &mut masks, &mut book);
-    io::print_decimal(STDOUT_FILENO, t.seen);
-    io::write_all(STDOUT_FILENO, b" records, ");
-    io::print_decimal(STDOUT_FILENO, t.bad);
-    io::write_all(STDOUT_FILENO, b" differ\n");
+    let t = all(&mut file, &mut slots, &mut masks, &mut book)?;
+    println!(rt; "{} records, {} differ", t.seen, t.bad)
 }

@@ -1,7 +1,9 @@
 // The tabled cases T12 to T14 of document 01, run. Each line is made of what the calls answered.
+#![tactic(auto)]
+
 ghost use Rattle.std.specs.Prelude.{◌≤◌};
 
-use libc::STDOUT_FILENO;
+use std::io;
 
 // Whether lent lengths that belong to n cells are accepted. This is the test that every call makes first. It is asked on lengths, since the slots of 65,535 cells take
 // 16.8 MB and a program has only its stack, of 8 MB; fuzz/ asks it in C on real memory.
@@ -12,19 +14,15 @@ fn accepted(n: usize) -> bool
 }
 
 // Writes n and the verdict.
-fn write_verdict(n: usize)
+fn write_verdict(rt: &impl Print, n: usize) -> io::Result<()>
     requires { (1 ≤ n) × (n ≤ 65536) }
 {
-    io::print_decimal(STDOUT_FILENO, n as u64);
-    if accepted(n) {
-        io::write_all(STDOUT_FILENO, b" accepted");
-    } else {
-        io::write_all(STDOUT_FILENO, b" refused");
-    }
+    let verdict = if accepted(n) { "accepted" } else { "refused" };
+    print!(rt; "{n} {verdict}")
 }
 
 // Writes the answers to the three combinations of seat 2 with itself, in a prepared pool of one cell: also before 6, which a seat that is not filled would give.
-fn write_itself() {
+fn write_itself(rt: &impl Print) -> io::Result<()> {
     let mut slots = [0u32; 4160];
     let mut masks = [0u64; 130];
     let mut book = [0u32; 11];
@@ -32,13 +30,7 @@ fn write_itself() {
     let union = calls::yoldrick_union(&mut slots, &mut masks, &mut book, 2, 2);
     let subtract = calls::yoldrick_subtract(&mut slots, &mut masks, &mut book, 2, 2);
     let intersect = calls::yoldrick_intersect(&mut slots, &mut masks, &mut book, 2, 2);
-    io::print_decimal(STDOUT_FILENO, prepared as u64);
-    io::write_all(STDOUT_FILENO, b", then ");
-    io::print_decimal(STDOUT_FILENO, union as u64);
-    io::write_all(STDOUT_FILENO, b", ");
-    io::print_decimal(STDOUT_FILENO, subtract as u64);
-    io::write_all(STDOUT_FILENO, b", ");
-    io::print_decimal(STDOUT_FILENO, intersect as u64);
+    print!(rt; "{prepared}, then {union}, {subtract}, {intersect}")
 }
 
 // Whether the count of the free cells is accepted and says n.
@@ -100,20 +92,13 @@ fn last_cell() -> u64 {
     turns(&mut slots, &mut masks, &mut book)
 }
 
-fn main() {
-    io::write_all(STDOUT_FILENO, b"T12 ");
-    write_verdict(65535);
-    io::write_all(STDOUT_FILENO, b", ");
-    write_verdict(65536);
-    io::write_all(
-        STDOUT_FILENO,
-        b"\nT13 prepare, then seat 2 with itself by union, subtract and intersect: ",
-    );
-    write_itself();
-    io::write_all(
-        STDOUT_FILENO,
-        b"\nT14 the last free cell is used and released ",
-    );
-    io::print_decimal(STDOUT_FILENO, last_cell());
-    io::write_all(STDOUT_FILENO, b" times\n");
+fn main(rt: HostRuntime) -> io::Result<()> {
+    print!(rt; "T12 ")?;
+    write_verdict(&rt, 65535)?;
+    print!(rt; ", ")?;
+    write_verdict(&rt, 65536)?;
+    print!(rt; "\nT13 prepare, then seat 2 with itself by union, subtract and intersect: ")?;
+    write_itself(&rt)?;
+    let times = last_cell();
+    println!(rt; "\nT14 the last free cell is used and released {times} times")
 }
