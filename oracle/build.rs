@@ -1,7 +1,6 @@
-//! Lays out one source tree of links: the given Rust files, unchanged, beside our stand-ins for the absent ones.
+//! Lays out one source tree of copies: the given Rust files, unchanged, beside our stand-ins for the absent ones.
 //! Then tells the linker where the archives of our library are.
 
-use std::os::unix::fs::symlink;
 use std::path::{Path, PathBuf};
 use std::{env, fs};
 
@@ -30,8 +29,8 @@ fn main() {
     if tree.exists() {
         fs::remove_dir_all(&tree).unwrap();
     }
-    link_all(&rust_folder(root).join("src"), &GIVEN, &tree);
-    link_all(&oracle.join("stand_ins"), &STAND_INS, &tree);
+    copy_all(&rust_folder(root).join("src"), &GIVEN, &tree);
+    copy_all(&oracle.join("stand_ins"), &STAND_INS, &tree);
     let archives = root.join("target/archive");
     println!("cargo:rustc-link-search=native={}", archives.display());
     ARCHIVES.iter().for_each(|name| link_archive(&archives, name));
@@ -43,12 +42,12 @@ fn rust_folder(root: &Path) -> PathBuf {
     root.join(env::var("YOLDRICK_RUST").unwrap_or("../shared/docs/src".into()))
 }
 
-fn link_all(from: &Path, files: &[&str], tree: &Path) {
+fn copy_all(from: &Path, files: &[&str], tree: &Path) {
     for file in files {
         let (source, place) = (from.join(file), tree.join(file));
         assert!(source.is_file(), "no {}", source.display());
         fs::create_dir_all(place.parent().unwrap()).unwrap();
-        symlink(&source, &place).unwrap();
+        fs::copy(&source, &place).unwrap();
         println!("cargo:rerun-if-changed={}", source.display());
     }
 }

@@ -26,7 +26,7 @@ EXCEPT = {
     "slot-of": "slot_of_lem", "kid-bit": "kid_bit_lem", "val-bit": "val_bit_lem", "combined-sign": "combined_sign_lem",
     "taken-end": "taken_end_lem", "settled-end": "settled_end_lem", "combined-end": "combined_end_lem",
     "fillSigns-lookup": "fill_signs_lookup_lem", "fillSigns-twice": "fill_signs_twice_lem",
-    "fillSigns-empty": "fill_signs_empty_lem",
+    "fillSigns-empty": "fill_signs_empty_lem", "negative-is": "negative_is_lem",
 }
 
 
