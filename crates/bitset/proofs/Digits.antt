@@ -58,7 +58,8 @@ pub digit_shl_low : (k s a : ℕ) → k < s → digit k (a * 2 ^ s) ≡ 0
 digit_shl_low k s a h =
     let d = s - suc k in
     let e : s ≡ suc d + k = omega arith in
-    let p : a * 2 ^ s ≡ a * 2 ^ d * 2 * 2 ^ k = ap (λ (j : ℕ). a * 2 ^ j) e ∙ ap (λ (x : ℕ). a * x) (pow-add 2 (suc d) k ∙ ap (λ (x : ℕ). x * 2 ^ k) (pow-suc 2 d)) ∙ sym (mul_assoc a (2 ^ d * 2) (2 ^ k)) ∙ ap (λ (x : ℕ). x * 2 ^ k) (sym (mul_assoc a (2 ^ d) 2)) in
+    let p : a * 2 ^ s ≡ a * 2 ^ d * 2 * 2 ^ k = ap (λ (j : ℕ). a * 2 ^ j) e ∙ ap (λ (x : ℕ). a * x) (pow-add 2 (suc d) k ∙ ap (λ (x : ℕ). x * 2 ^ k) (pow-suc 2 d)) ∙ sym
+    (mul_assoc a (2 ^ d * 2) (2 ^ k)) ∙ ap (λ (x : ℕ). x * 2 ^ k) (sym (mul_assoc a (2 ^ d) 2)) in
     ap (λ (x : ℕ). x / 2 ^ k % 2) p ∙ ap (λ (x : ℕ). x % 2) (shl-shr (a * 2 ^ d * 2) k) ∙ mul-mod_left (a * 2 ^ d) 2
 
 digit_mod : (k j n : ℕ) → digit k (n % 2 ^ (suc j + k)) ≡ digit k n
@@ -115,7 +116,8 @@ digit_not m k a h =
 pub digits_ext : (n a b : ℕ) → a < 2 ^ n → b < 2 ^ n → ((k : ℕ) → k < n → digit k a ≡ digit k b) → a ≡ b
 digits_ext zero a b ha hb h = omega arith
 digits_ext (suc n) a b ha hb h =
-    let e : a / 2 ≡ b / 2 = digits_ext n (a / 2) (b / 2) (half a n ha) (half b n hb) (λ k l. digit_shr k 1 a ∙ ap (λ (j : ℕ). digit j a) (one_add k) ∙ h (suc k) (omega arith) ∙ ap (λ (j : ℕ). digit j b) (sym (one_add k)) ∙ sym (digit_shr k 1 b)) in
+    let e : a / 2 ≡ b / 2 = digits_ext n (a / 2) (b / 2) (half a n ha) (half b n hb)
+    (λ k l. digit_shr k 1 a ∙ ap (λ (j : ℕ). digit j a) (one_add k) ∙ h (suc k) (omega arith) ∙ ap (λ (j : ℕ). digit j b) (sym (one_add k)) ∙ sym (digit_shr k 1 b)) in
     let o : a % 2 ≡ b % 2 = ap (λ (x : ℕ). x % 2) (sym (div-one a)) ∙ h 0 (omega arith) ∙ ap (λ (x : ℕ). x % 2) (div-one b) in
     omega arith
   where

@@ -39,7 +39,8 @@ module _ {g : ℕ → Bool} {s₀ s : List ℕ} {i : ℕ} (d : Front g s₀ s i)
   pub front_more : i < length s₀ → (v : ℕ) → Has g i v → Front g s₀ (set s i v) (i + 1)
   front_more h v e = record {
     long = length-set s i v ∙ d.long;
-    done = below_more (λ p. Has g p (get_or (set s i v) p 0)) i (λ p l. subst (Has g p) (sym (get_or-set_other s i p v 0 (ne_of_lt l))) (d.done p l)) (subst (Has g i) (sym (get_or-set_same s i v 0 (subst (λ (n : ℕ). i < n) (sym d.long) h))) e);
+    done = below_more (λ p. Has g p (get_or (set s i v) p 0)) i (λ p l. subst (Has g p) (sym (get_or-set_other s i p v 0 (ne_of_lt l))) (d.done p l))
+        (subst (Has g i) (sym (get_or-set_same s i v 0 (subst (λ (n : ℕ). i < n) (sym d.long) h))) e);
     left = λ p l. get_or-set_other s i p v 0 (ne_of_gt (omega arith)) ∙ d.left p (omega arith);
   }
 
@@ -79,7 +80,8 @@ module _ (op : Operation) (a b : List ℕ) {s₀ s : List ℕ} {i : ℕ} (d : Fr
   both_all h ea eb = front_whole d h (λ k l. ap₂ (on_bits op) (bit_past a k (omega arith)) (bit_past b k (omega arith)) ∙ none_of_none op)
 
 -- where a itself is written, its word at i is still the one that it had
-pub assign_more : (op : Operation) (b : List ℕ) {a₀ a : List ℕ} {i : ℕ} (d : Front (both op a₀ b) a₀ a i) → i < length a₀ → (v : ℕ) → Made op (get_or a i 0) (get_or b i 0) v → Front (both op a₀ b) a₀ (set a i v) (i + 1)
+pub assign_more : (op : Operation) (b : List ℕ) {a₀ a : List ℕ} {i : ℕ} (d : Front (both op a₀ b) a₀ a i) → i < length a₀ → (v : ℕ) → Made op (get_or a i 0) (get_or b i 0) v
+    → Front (both op a₀ b) a₀ (set a i v) (i + 1)
 assign_more op b {a₀} {a} {i} d h v e = both_more op a₀ b d h v (subst (λ (w : ℕ). Made op w (get_or b i 0) v) (d.left i (le_refl i)) e)
 
 -- ---- from the back

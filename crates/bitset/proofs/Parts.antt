@@ -43,7 +43,8 @@ module _ (ws ys : List ℕ) (a n : ℕ) (fits : a + n ≤ length ws) (long : len
       ∙ get_or-drop n (drop a ws) j 0 ∙ get_or-drop a ws (n + j) 0
 
   -- what the part's new bits say, the whole's say at 64 * a more; every other bit is as it was
-  pub bit_put : (g : ℕ → Bool) → ((i : ℕ) → i < 64 * n → bit_of ys i ≡ g (64 * a + i)) → ((k : ℕ) → (k < 64 * a) ⊎ (64 * (a + n) ≤ k) → bit_of ws k ≡ g k) → (k : ℕ) → bit_of (put_mid a n ws ys) k ≡ g k
+  pub bit_put : (g : ℕ → Bool) → ((i : ℕ) → i < 64 * n → bit_of ys i ≡ g (64 * a + i)) → ((k : ℕ) → (k < 64 * a) ⊎ (64 * (a + n) ≤ k) → bit_of ws k ≡ g k) → (k : ℕ) → bit_of
+      (put_mid a n ws ys) k ≡ g k
   bit_put g inside outside k = elim (lt_or_le (k / 64) a) [
     | inl h ↦ bit_same (put_mid a n ws ys) ws k (word_before (k / 64) h) ∙ outside k (inl (omega arith))
     | inr h ↦ elim (lt_or_le (k / 64) (a + n)) [
@@ -63,7 +64,8 @@ module _ (ws ys : List ℕ) (a n : ℕ) (fits : a + n ≤ length ws) (long : len
   ]
 
   -- the same for a function that changes bit i of the part alone, as f does, which leaves the others: in the whole it is bit 64 * a + i
-  pub bit_put_one : (f : Bool → Bool → Bool) → ((b : Bool) → f false b ≡ b) → (i : ℕ) → i < 64 * n → ((j : ℕ) → bit_of ys j ≡ f (eqb j i) (bit_of (take n (drop a ws)) j)) → (k : ℕ) → bit_of (put_mid a n ws ys) k ≡ f (eqb k (64 * a + i)) (bit_of ws k)
+  pub bit_put_one : (f : Bool → Bool → Bool) → ((b : Bool) → f false b ≡ b) → (i : ℕ) → i < 64 * n → ((j : ℕ) → bit_of ys j ≡ f (eqb j i) (bit_of (take n (drop a ws)) j))
+      → (k : ℕ) → bit_of (put_mid a n ws ys) k ≡ f (eqb k (64 * a + i)) (bit_of ws k)
   bit_put_one f still i h new =
       bit_put (λ k. f (eqb k (64 * a + i)) (bit_of ws k))
       (λ j l. new j ∙ ap₂ f (moved j) (bit_part ws a n j l))

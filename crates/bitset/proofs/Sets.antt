@@ -72,7 +72,8 @@ bit_set ws q v h k =
     ]
 
 -- the same, where it is known what the bits are to be there and elsewhere
-pub bit_store : (ws : List ℕ) (q v : ℕ) → q < length ws → (g : ℕ → Bool) → ((k : ℕ) → k / 64 ≡ q → word_bit v k ≡ g k) → ((k : ℕ) → (k / 64 ≡ q → ⊥) → bit_of ws k ≡ g k) → (k : ℕ) → bit_of (set ws q v) k ≡ g k
+pub bit_store : (ws : List ℕ) (q v : ℕ) → q < length ws → (g : ℕ → Bool) → ((k : ℕ) → k / 64 ≡ q → word_bit v k ≡ g k) → ((k : ℕ) → (k / 64 ≡ q → ⊥) → bit_of ws k ≡ g k) → (k : ℕ)
+    → bit_of (set ws q v) k ≡ g k
 bit_store ws q v h g here other k =
     bit_set ws q v h k ∙ elim (is_or_not (k / 64) q) [
       | inl e ↦ ap (λ (b : Bool). cond b (word_bit v k) (bit_of ws k)) (eq-eqb (k / 64) q e) ∙ here k e
@@ -80,11 +81,13 @@ bit_store ws q v h g here other k =
     ]
 
 -- ---- a store of a word's own value under an operation with v: elsewhere the operation is to leave the bits as they are
-pub bit_change : {op : ℕ → ℕ → ℕ} {f : Bool → Bool → Bool} → Acts op f → (ws : List ℕ) (q v : ℕ) → q < length ws → (g : ℕ → Bool) → Has g q v → ((k : ℕ) → (k / 64 ≡ q → ⊥) → f (bit_of ws k) (g k) ≡ bit_of ws k)
+pub bit_change : {op : ℕ → ℕ → ℕ} {f : Bool → Bool → Bool} → Acts op f → (ws : List ℕ) (q v : ℕ) → q < length ws → (g : ℕ → Bool) → Has g q v
+    → ((k : ℕ) → (k / 64 ≡ q → ⊥) → f (bit_of ws k) (g k) ≡ bit_of ws k)
     → (k : ℕ) → bit_of (set ws q (op (get_or ws q 0) v)) k ≡ f (bit_of ws k) (g k)
 bit_change {op} {f} acts ws q v h g has other =
     bit_store ws q (op (get_or ws q 0) v) h (λ k. f (bit_of ws k) (g k))
-    (λ k e. has_bit (λ k. f (bit_of ws k) (g k)) (op (get_or ws q 0) v) k (subst (λ (p : ℕ). Has (λ k. f (bit_of ws k) (g k)) p (op (get_or ws q 0) v)) (sym e) (has_both acts (bit_of ws) g q (get_or ws q 0) v (has_own ws q) has)))
+    (λ k e. has_bit (λ k. f (bit_of ws k) (g k)) (op (get_or ws q 0) v) k
+    (subst (λ (p : ℕ). Has (λ k. f (bit_of ws k) (g k)) p (op (get_or ws q 0) v)) (sym e) (has_both acts (bit_of ws) g q (get_or ws q 0) v (has_own ws q) has)))
     (λ k ne. sym (other k ne))
 
 -- ---- the word m that has bit i alone joins i's word, or leaves it

@@ -10,7 +10,8 @@ use lib.Pow.{pow_mono, pow-lt, pow-add, shl-shr}
 use lib.Bits.{bit_and, bit_or, bit_xor, and_shr, and_mod, or_shr, or_mod, xor_shr, xor_mod}
 use borrow.Author.Tests.{eq-eqb, ne_eqb}
 use Rattle.bitset.specs.Set.{weight, word_bit}
-use Rattle.bitset.proofs.Digits.{is_or_not, digit, digit_lt, bits2, digit_zero, digit_above, digit_shr, digit_shl_high, digit_shl_low, digit_mod64, digit_pow_same, digit_pow_other, digit_not, digits_ext}
+use Rattle.bitset.proofs.Digits.{is_or_not, digit, digit_lt, bits2, digit_zero, digit_above, digit_shr, digit_shl_high, digit_shl_low, digit_mod64}
+use Rattle.bitset.proofs.Digits.{digit_pow_same, digit_pow_other, digit_not, digits_ext}
 
 -- the word of all ones
 abbrev pub ones : ℕ

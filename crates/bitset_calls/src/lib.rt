@@ -149,7 +149,8 @@ pub fn yoldrick_bits_word(ws: &[u64], n: usize, offset: usize) -> BitsAnswer
 
 // The word at offset becomes value; nothing, and no change, where a bit of it is not below n.
 pub fn yoldrick_bits_put_word(ws: &mut [u64], n: usize, offset: usize, value: u64) -> BitsAnswer
-    ensures { Writes (sized (length ws.old) n) (stored (leb (64 * (offset + 1)) n)) (λ k. cond (leb (64 * (offset + 1)) n && eqb (k / 64) offset) (word_bit value k) (bit_of ws.old k)) ws.old ws.new result }
+    ensures { Writes (sized (length ws.old) n) (stored (leb (64 * (offset + 1)) n))
+        (λ k. cond (leb (64 * (offset + 1)) n && eqb (k / 64) offset) (word_bit value k) (bit_of ws.old k)) ws.old ws.new result }
 {
     if sized(ws.len(), n) {
         if bitset::put_word(ws, n, offset, value) {

@@ -61,7 +61,8 @@ pub extern "C" fn yoldrick_bits_put_word(
     offset: usize,
     value: u64,
 ) -> BitsAnswer
-    ensures { Writes (sized (length ws.old) n) (stored (leb (64 * (offset + 1)) n)) (λ k. cond (leb (64 * (offset + 1)) n && eqb (k / 64) offset) (word_bit value k) (bit_of ws.old k)) ws.old ws.new result }
+    ensures { Writes (sized (length ws.old) n) (stored (leb (64 * (offset + 1)) n))
+        (λ k. cond (leb (64 * (offset + 1)) n && eqb (k / 64) offset) (word_bit value k) (bit_of ws.old k)) ws.old ws.new result }
 {
     bitset_calls::yoldrick_bits_put_word(ws, n, offset, value)
 }

@@ -4,7 +4,8 @@ use Rattle.std.proofs.Math.Option.{none, some}
 use Rattle.floats.specs.Value.{value}
 use Rattle.grid.specs.Geometry.{Point}
 use Rattle.nodes.specs.Layout.{slots_length, masks_length, book_length}
-use Rattle.seats.specs.Call.{Lookup, Sign, Remove, Insert, Fill, Cut, Clear, Prune, Flip, FillSigns, IsEmpty, Call, One, Two, Prepare, Count, Answer, refused, found, negative_is, empty_is, free_cells, done}
+use Rattle.seats.specs.Call.{Lookup, Sign, Remove, Insert, Fill, Cut, Clear, Prune, Flip, FillSigns, IsEmpty, Call, One, Two, Prepare, Count, Answer}
+use Rattle.seats.specs.Call.{refused, found, negative_is, empty_is, free_cells, done}
 use Rattle.means.specs.Mem.{Mem}
 use Rattle.voxels.specs.Answers.{Says, code_of}
 use Rattle.voxels.specs.declared.voxel.Found.{Found}

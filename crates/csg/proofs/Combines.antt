@@ -9,7 +9,7 @@ use lib.ListN.{get_or}
 use Rattle.bitset.specs.Set.{bit_of}
 use borrow.Author.Tests.{not-true, not-false}
 use Rattle.floats.specs.Value.{is_finite, negative, far_with}
-use Rattle.grid.specs.Combine.{Operation, stays_with, settled_by}
+use Rattle.grid.specs.Combine.{Operation, union, stays_with, settled_by}
 use Rattle.grid.specs.Node.{Node, size}
 use Rattle.nodes.specs.State.{St, Sound}
 use Rattle.nodes.specs.Layout.{Sized, st, word_of, kid_bit}
@@ -181,7 +181,7 @@ module _ (o : Operation) {n l x y k : ℕ} {slots masks book : List ℕ} (z : Si
       pub branch_joined : {r : St} → r ≡ go (8 + c) (8 + d) s → r ≡ meet s
       branch_joined p = p ∙ ap₂ (λ (c d : ℕ). go (8 + c) (8 + d) s) c_is d_is ∙ sym (rw (kid_x z h q e ∙ not-false v i) refl)
 
-      pub cells_may : 0 < l → s.kid y k ≡ true → Joinable n (l - 1) s (8 + c) (8 + d)
+      cells_may : 0 < l → s.kid y k ≡ true → Joinable n (l - 1) s (8 + c) (8 + d)
       cells_may up ey = rw (c_is, d_is) (below_may l x y k up h q (kid_x z h q e ∙ not-false v i) ey)
 
   -- whatever the two are: v is whether a's stays, and u whether b's is a branch
@@ -195,6 +195,13 @@ module _ (o : Operation) {n l x y k : ℕ} {slots masks book : List ℕ} (z : Si
 
       pub slot_value : u ≡ false → r ≡ meet_value (empty_m n (l - 1)) o n x y k s → r ≡ step o n (l - 1) x y k s
       slot_value g p = p ∙ sym (rw (sym e ∙ i, kid_y z h q f ∙ g) refl)
+
+-- what joining two branches asks, as it is asked: then their cells may be joined
+module _ {n l x y k : ℕ} {slots masks book : List ℕ}
+    (p : Sized n slots masks book × Joinable n l (st n slots masks book) x y × (0 < l) × (k < span l) × ((st n slots masks book).kid y k ≡ true)) where
+  pub pair_may : {v : Bool} {c d : ℕ} → v ≡ bit_of masks (kid_bit x k) → v ≡ true → c ≡ get_or slots (word_of x k) 0 → d ≡ get_or slots (word_of y k) 0
+      → Joinable n (l - 1) (st n slots masks book) (8 + c) (8 + d)
+  pair_may e i f g = cells_may union p.0 p.1 p.3 e (ap not i) f g p.2 p.4
 
 module _ (o : Operation) {n : ℕ} where
   -- after the first k slots the two nodes may be joined still

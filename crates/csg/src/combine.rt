@@ -81,7 +81,8 @@ fn meet_branch(
     k: usize,
     join: Join,
 )
-    requires { (Sized n slots.old masks.old book.old) × (Joinable n level (st n slots.old masks.old book.old) x y) × (0 < level) × (k < span level) × ((st n slots.old masks.old book.old).kid y k ≡ true) }
+    requires { (Sized n slots.old masks.old book.old) × (Joinable n level (st n slots.old masks.old book.old) x y) × (0 < level) × (k < span level)
+        × ((st n slots.old masks.old book.old).kid y k ≡ true) }
     ensures { st n slots.new masks.new book.new
         ≡ meet_branch (branching (level - 1)) (below (level - 1)) (join_o join) n (combine_m (branching (level - 1)) (below (level - 1)) (join_o join) n) x y k (st n slots.old masks.old book.old) }
 {

@@ -9,7 +9,8 @@ use Prim.Native.Nat.{ℕ, suc, ◌-◌, ◌≤◌}
 use native.Mathlib.Omega.{arith}
 use Rattle.floats.proofs.Words.{on_case}
 use Rattle.bitset.proofs.Digits.{lt_or_le}
-use Rattle.seats.specs.Call.{Lookup, Sign, Remove, Insert, Fill, Cut, Clear, Prune, Flip, FillSigns, IsEmpty, Call, One, Two, Prepare, Count, Answer, refused, found, negative_is, empty_is, free_cells, done}
+use Rattle.seats.specs.Call.{Lookup, Sign, Remove, Insert, Fill, Cut, Clear, Prune, Flip, FillSigns, IsEmpty, Call, One, Two, Prepare, Count, Answer}
+use Rattle.seats.specs.Call.{refused, found, negative_is, empty_is, free_cells, done}
 use Rattle.seats.specs.Promise.{Verdict, refuse, give, turn, loose, Accepted, grants, refuse_or, Keeps, Promise}
 use Rattle.seats.specs.Refusal as list
 use Rattle.seats.specs.Refusal.{first, order, refusal}

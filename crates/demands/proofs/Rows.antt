@@ -22,7 +22,9 @@ use Rattle.means.specs.Mem.{Mem, cells_of, fits, pool_of, seat_of, reads_in}
 use Rattle.means.proofs.Memory.{Fitting, fitting, mem_sound}
 use Rattle.means.proofs.Test.{sound_is}
 use Rattle.sound.proofs.Fits.{fit_is}
-use Rattle.demands.specs.Rows.{Together, OneVoxel, lookup, sign, insert, remove, needed, Bare, BareBranch, Row, lengths, seat_above, pair_above, pair_equal, insert_value, fill_value, below_bound, above_bound, between_bound, path, free, pool, sign_unfilled, pair_unfilled, signs_bare, pair_bare, onto, few}
+use Rattle.demands.specs.Rows.{Together, OneVoxel, lookup, sign, insert, remove, needed, Bare, BareBranch, Row, lengths, seat_above, pair_above}
+use Rattle.demands.specs.Rows.{pair_equal, insert_value, fill_value, below_bound, above_bound, between_bound, path, free, pool, sign_unfilled}
+use Rattle.demands.specs.Rows.{pair_unfilled, signs_bare, pair_bare, onto, few}
 use Rattle.demands.proofs.Read.{is_bare, bare_is, bare_branch, no_branch_bare, at_most_7, grid_is}
 use Rattle.demands.proofs.Voxel.{one_below, kind_is, few_is, voxel_forth, path_back, free_back}
 

@@ -68,6 +68,7 @@ module _ (m m' : Mem) (s : SoundMem m) (i : ℕ) (l : i < 8) (mk : ℕ) (two : m
       there : (t : ℕ) → (t ≡ i → ⊥) → seat_of m' t ≡ seat_of m t
       there t ne = on_case (ltb t 8)
           (λ e. marked_seat m' i mk r is t (ltb-true t 8 e)
-          ∙ ap₂ {C = Seat₂} (λ (h : Node (levels 2)) (f : ℕ). record { grid = h; filled = eqb f 1 }) (sym (others s.1 i t l (ltb-true t 8 e) ne a)) (at1_else r.mark i mk t ne ∙ ap (λ (f : ℕ → ℕ). f t) a.marks)
+          ∙ ap₂ {C = Seat₂} (λ (h : Node (levels 2)) (f : ℕ). record { grid = h; filled = eqb f 1 }) (sym (others s.1 i t l (ltb-true t 8 e) ne a))
+          (at1_else r.mark i mk t ne ∙ ap (λ (f : ℕ → ℕ). f t) a.marks)
           ∙ sym (rw e refl))
           (λ e. rw e refl)

@@ -84,7 +84,8 @@ module _ (n : ℕ) (sl mk bk : List ℕ) where
     ready_last z h {c} q =
         let s : 0 < get_or bk count_place 0 = some z in
         let f : get_or bk count_place 0 ≤ n = omega arith in
-        sym (rw (lt-ltb 0 (get_or bk count_place 0) s, le-leb (get_or bk count_place 0) n f) (ap (λ (i : ℕ). ltb i n) (sym (next_at f s) ∙ ap (λ (i : ℕ). get_or bk (head + n + (i - 1)) 0) (sym e) ∙ sym q)))
+        sym (rw (lt-ltb 0 (get_or bk count_place 0) s, le-leb (get_or bk count_place 0) n f)
+        (ap (λ (i : ℕ). ltb i n) (sym (next_at f s) ∙ ap (λ (i : ℕ). get_or bk (head + n + (i - 1)) 0) (sym e) ∙ sym q)))
 
 -- ---- the steps on the book
 module _ (n : ℕ) (bk bk' : List ℕ) (z : Booked n bk) (sl mk : List ℕ) where

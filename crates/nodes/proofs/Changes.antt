@@ -71,7 +71,8 @@ module _ (n : ℕ) (m m' : ℕ → Bool) where
     pub paint_val : (y j : ℕ) → vals m' y j ≡ in_cell (vals m) c a y j
     paint_val = spread_cell n false (λ j. m (64 * (64 + n) + j)) (λ j. m' (64 * (64 + n) + j)) c a l (λ j q.
         h (64 * (64 + n) + j)
-        ∙ ap (λ (t : Bool). cond t a (cond (eqb ((64 * (64 + n) + j) / 64) (64 + c)) false (m (64 * (64 + n) + j)))) (same_test ((64 * (64 + n) + j) / 64) (128 + n + c) (j / 64) (64 + c) (λ e. omega arith) (λ e. omega arith))
+        ∙ ap (λ (t : Bool). cond t a (cond (eqb ((64 * (64 + n) + j) / 64) (64 + c)) false (m (64 * (64 + n) + j))))
+        (same_test ((64 * (64 + n) + j) / 64) (128 + n + c) (j / 64) (64 + c) (λ e. omega arith) (λ e. omega arith))
         ∙ ap (λ (t : Bool). cond (eqb (j / 64) (64 + c)) a (cond t false (m (64 * (64 + n) + j)))) (ne_eqb ((64 * (64 + n) + j) / 64) (64 + c) (λ e. omega arith)))
 
 -- ---- the steps on slots and masks
@@ -93,7 +94,8 @@ module _ (n : ℕ) (sl sl' mk mk' : List ℕ) (book : List ℕ) where
   put_step {x} {k} w a z m e p r =
       let q : (j : ℕ) → bit_of mk' j ≡ cond (eqb j (val_bit n x k)) a (bit_of mk j) = λ j. r j ∙ ap (λ (h : ℕ). cond (eqb j (64 * (64 + n) + h)) a (bit_of mk j)) e in
       st_ext _ _
-      (spread_one n 0 (λ j. get_or sl j 0) (λ j. get_or sl' j 0) x k w m (λ j l. ap (λ (s : List ℕ). get_or s j 0) (p ∙ ap (λ (h : ℕ). set sl h w) e) ∙ get_d_set sl (word_of x k) w (omega (arith, word_lt m, z.slots_fit)) j))
+      (spread_one n 0 (λ j. get_or sl j 0) (λ j. get_or sl' j 0) x k w m
+      (λ j l. ap (λ (s : List ℕ). get_or s j 0) (p ∙ ap (λ (h : ℕ). set sl h w) e) ∙ get_d_set sl (word_of x k) w (omega (arith, word_lt m, z.slots_fit)) j))
       (val_kid n (bit_of mk) (bit_of mk') a m q)
       (val_val n (bit_of mk) (bit_of mk') a m q)
       refl (λ _. refl) (λ _. refl) (λ _. refl)
@@ -136,7 +138,8 @@ module _ {base w : ℕ} {l₀ l : List ℕ} {i : ℕ} (d : Filled base w l₀ l 
   pub filled_more : base + i < length l₀ → Filled base w l₀ (set l (base + i) w) (i + 1)
   filled_more h = record {
     long = length-set l (base + i) w ∙ d.long;
-    done = below_more (λ p. get_or (set l (base + i) w) (base + p) 0 ≡ w) i (λ p q. get_or-set_other l (base + i) (base + p) w 0 (λ e. omega arith) ∙ d.done p q) (get_or-set_same l (base + i) w 0 (omega (arith, d.long)));
+    done = below_more (λ p. get_or (set l (base + i) w) (base + p) 0 ≡ w) i (λ p q. get_or-set_other l (base + i) (base + p) w 0 (λ e. omega arith) ∙ d.done p q)
+        (get_or-set_same l (base + i) w 0 (omega (arith, d.long)));
     left = λ p q. get_or-set_other l (base + i) p w 0 (apart p q) ∙ d.left p (wider p q);
   }
     where

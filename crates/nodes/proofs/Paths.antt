@@ -91,7 +91,8 @@ module _ (slots masks book : List ℕ) {n x k : ℕ} (i : In n x k) where
       let t : (st n slots masks book).kid x k ≡ true = st_kid slots masks book i ∙ sym q ∙ r in
       ap Branch (p ∙ sym (st_slot slots masks book i)) ∙ rw t at (view_up (st n slots masks book) l x k h)
 
-  pub view_closed : (l : ℕ) {t : Slot} {v : Bool} → (l ≡ 0 → ⊥) → v ≡ bit_of masks (kid_bit x k) → v ≡ false → t ≡ closed_s (st n slots masks book) x k → t ≡ view_s (below l) (st n slots masks book) x k
+  pub view_closed : (l : ℕ) {t : Slot} {v : Bool} → (l ≡ 0 → ⊥) → v ≡ bit_of masks (kid_bit x k) → v ≡ false → t ≡ closed_s (st n slots masks book) x k → t ≡ view_s (below l)
+      (st n slots masks book) x k
   view_closed l h q r e =
       let t : (st n slots masks book).kid x k ≡ false = st_kid slots masks book i ∙ sym q ∙ r in
       e ∙ rw t at (view_up (st n slots masks book) l x k h)

@@ -160,7 +160,8 @@ place_lies n s p (suc l) x h =
     let e : (suc l ≡ 0 → ⊥) = λ z. omega arith in
     place_by (Lies n) n s (suc l) x p refl e refl
     (λ i. subst (λ (m : ℕ). Lies n (place_s (branching m) (below m) n s (8 + lead_s n s x (slot_of (branching (suc l)) (below (suc l)) p)) p)) (sym (one_less l))
-    (place_lies n s p l (8 + lead_s n s x (slot_of (branching (suc l)) (below (suc l)) p)) (subst (λ (m : ℕ). Stands n m (8 + lead_s n s x (slot_of (branching (suc l)) (below (suc l)) p))) (one_less l) (stands_below h e _ i))))
+    (place_lies n s p l (8 + lead_s n s x (slot_of (branching (suc l)) (below (suc l)) p))
+    (subst (λ (m : ℕ). Stands n m (8 + lead_s n s x (slot_of (branching (suc l)) (below (suc l)) p))) (one_less l) (stands_below h e _ i))))
     (λ i. (h, slot_in p h refl)) (λ i. tt)
 
 pub reach_place : (b : ℕ) (bs : List ℕ) (n : ℕ) (s : St) (x : ℕ) (p : Point) → reach_s b bs n s x p ≡ end_at s (place_s b bs n s x p)
@@ -178,7 +179,8 @@ reach_place b (c ∷ bs) n s x p =
     by k false v w i f = refl
 
 -- ---- what the number of an end tells: with the slot's level, its node and itself given back from it
-pub ends_at : {n r : ℕ} (q : Place) → n < 65536 → Lies n q → r ≡ packed q → (r ≡ 0 → ⊥) → (l x k : ℕ) × (q ≡ at l x k) × (Stands n l x) × (In n x k) × (r % 0x100_0000 ≡ word_of x k) × (r / 0x100_0000 ≡ l + 1)
+pub ends_at : {n r : ℕ} (q : Place) → n < 65536 → Lies n q → r ≡ packed q → (r ≡ 0 → ⊥) → (l x k : ℕ) × (q ≡ at l x k) × (Stands n l x) × (In n x k) × (r % 0x100_0000 ≡ word_of x k)
+    × (r / 0x100_0000 ≡ l + 1)
 ends_at (at l x k) m h e z =
     let w = word_lt h.1 in
     (l, x, k, refl, h.0, h.1, omega (arith, w), omega (arith, w))

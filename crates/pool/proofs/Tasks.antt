@@ -174,7 +174,8 @@ change_says t m n h i l serve m' k is =
     let z : n ≡ 0 → ⊥ = counted_some m n h s.0 in
     let w : Worked m s i l t = worked m s i l t (served_given m (One i (act_of t)) serve) in
     let after : st n m'.slots m'.masks m'.book ≡ pool_of m' = is_pool m' n (λ y a b d. h y (a ∙ k.slots) (b ∙ k.masks) (d ∙ k.book)) z in
-    let r = turns m m' i l (act_of t) serve k (mark_of t ((pool_of m).mark i)) w.mark (work_s t (cells_of m) i (pool_of m)) (sym after ∙ is ∙ same (is_cells m n h z) (is_pool m n h z)) s w.turned w.does in
+    let r = turns m m' i l (act_of t) serve k (mark_of t ((pool_of m).mark i)) w.mark (work_s t (cells_of m) i (pool_of m))
+    (sym after ∙ is ∙ same (is_cells m n h z) (is_pool m n h z)) s w.turned w.does in
     (done, refl, rw (serve, task_turns t i m) (refl, r.0, r.1, r.2, r.3))
   where
     same : {a : St} → n ≡ cells_of m → a ≡ pool_of m → change_s t n i a ≡ mark_s i (mark_of t ((pool_of m).mark i)) (work_s t (cells_of m) i (pool_of m))

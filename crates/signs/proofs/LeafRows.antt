@@ -52,7 +52,8 @@ module _ {p v : ℕ} (slots : List ℕ) where
   pub starts_none : {w : ℕ} → v ≡ 0 → w ≡ far_with false → LeafStart p v slots w
   unfolding size
   starts_none z q n x masks book a =
-      q ∙ ap far_with (start_none [] n (st n slots masks book) x 64 64 (start_past [] n (st n slots masks book) x 64 64 (omega arith) (λ j l. hidden_is a book j l (ap (λ (w : ℕ). word_bit w j) z ∙ zero_bit j))) (omega arith))
+      q ∙ ap far_with (start_none [] n (st n slots masks book) x 64 64
+      (start_past [] n (st n slots masks book) x 64 64 (omega arith) (λ j l. hidden_is a book j l (ap (λ (w : ℕ). word_bit w j) z ∙ zero_bit j))) (omega arith))
 
   pub starts_at : {k w w' : ℕ} → Leads v k → w ≡ get_or slots (p + k) 0 → w' ≡ far_with (negative w) → LeafStart p v slots w'
   unfolding size
@@ -78,7 +79,8 @@ module _ {p v k : ℕ} (slots : List ℕ) (h : k < 64) {b : Bool} (e : b ≡ wor
       let s = st n slots masks book in
       on_case (word_bit v k)
       (λ t. ap (λ (l : List ℕ). st n l masks book) (r ∙ ap (set slots (p + k)) (q ∙ rw (e ∙ t) d) ∙ set-get_or slots (p + k) 0) ∙ write_none a book k h t g)
-      (λ t. write_yes [] x k g s (hidden_is a book k h t) refl (q ∙ rw (e ∙ t) c) (word_step n slots slots' masks book u a.fit (slot_in a book k h) (r ∙ ap (λ (i : ℕ). set slots i u) (place_is a book k h))))
+      (λ t. write_yes [] x k g s (hidden_is a book k h t) refl (q ∙ rw (e ∙ t) c)
+      (word_step n slots slots' masks book u a.fit (slot_in a book k h) (r ∙ ap (λ (i : ℕ). set slots i u) (place_is a book k h))))
 
 -- ---- m steps of a loop from the far word f₀ on, which have come to f and slots
 pub record Going (at : ℕ → ℕ) (w : ℕ → ℕ → ℕ → Bool → St → St) (p v f₀ : ℕ) (slots₀ : List ℕ) (m f : ℕ) (slots : List ℕ) (n x : ℕ) (masks book : List ℕ) (g : Bool) : Type 0 where
@@ -100,7 +102,8 @@ module _ (at : ℕ → ℕ) (w : ℕ → ℕ → ℕ → Bool → St → St) {p 
   pub along_none : Along at w p v f₀ slots₀ 0 f₀ slots₀
   along_none = record { long = refl; goes = λ n x masks book g a c. record { sign = g; same = c; carried = carry_none _ g _ } }
 
-  pub along_more : {m f f' : ℕ} {slots slots' : List ℕ} → Along at w p v f₀ slots₀ m f slots → LeafSign (λ n s x. behind_s [] n s x (at m)) p v f slots f' → LeafDone (λ n x. w n x (at m)) p v f' slots slots' → length slots' ≡ length slots
+  pub along_more : {m f f' : ℕ} {slots slots' : List ℕ} → Along at w p v f₀ slots₀ m f slots → LeafSign (λ n s x. behind_s [] n s x (at m)) p v f slots f' → LeafDone
+      (λ n x. w n x (at m)) p v f' slots slots' → length slots' ≡ length slots
       → Along at w p v f₀ slots₀ (m + 1) f' slots'
   along_more {m} {f} {f'} {slots} {slots'} q b d l = record {
     long = l ∙ q.long;

@@ -54,11 +54,13 @@ word_links masks j h = ones_bits (get_or masks j 0) h ∙ sum_same 64 _ _ (λ i 
 
 module _ (n : ℕ) (slots masks book : List ℕ) where
   -- a node that may have branches has as many links as bits of the child mask, from bit p on
-  fork_links : (x p w : ℕ) → x < 8 + n → fork_b (st n slots masks book) x ≡ true → wide x ≡ w → ((k : ℕ) → kid_bit x k ≡ p + k) → tally (λ k. bit_of masks (p + k)) w ≡ links_of (st n slots masks book) x
+  fork_links : (x p w : ℕ) → x < 8 + n → fork_b (st n slots masks book) x ≡ true → wide x ≡ w → ((k : ℕ) → kid_bit x k ≡ p + k) → tally (λ k. bit_of masks (p + k)) w ≡ links_of
+      (st n slots masks book) x
   unfolding links_of
   fork_links x p w h f e q =
       ap (tally (λ k. bit_of masks (p + k))) (sym e)
-      ∙ sum_same (wide x) _ _ (λ k l. ap (λ (b : Bool). cond b 1 0) (ap (bit_of masks) (sym (q k)) ∙ sym (st_kid slots masks book (record { node = h; slot = l })) ∙ ap (λ (b : Bool). b && (st n slots masks book).kid x k) (sym f)))
+      ∙ sum_same (wide x) _ _ (λ k l. ap (λ (b : Bool). cond b 1 0)
+      (ap (bit_of masks) (sym (q k)) ∙ sym (st_kid slots masks book (record { node = h; slot = l })) ∙ ap (λ (b : Bool). b && (st n slots masks book).kid x k) (sym f)))
 
   -- the tops: 64 words
   pub top_links : ((j : ℕ) → get_or masks j 0 < 2 ^ 64) → sum 64 (λ j. ones (get_or masks j 0)) ≡ sum 8 (links_of (st n slots masks book))

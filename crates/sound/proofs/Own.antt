@@ -20,7 +20,8 @@ use Rattle.sound.proofs.Book.{st_tag, st_stack}
 use Rattle.sound.proofs.Checks.{node_free}
 
 -- by the words at places i and j of the book
-pub own_by : (n : ℕ) (slots masks book : List ℕ) (c i j : ℕ) → c < n → i ≡ tag_place c → j ≡ stack_place n c → {a : Bool} → a ≡ eqb (get_or book i 0) c && eqb (get_or book j 0) c → a ≡ own_b (st n slots masks book) c
+pub own_by : (n : ℕ) (slots masks book : List ℕ) (c i j : ℕ) → c < n → i ≡ tag_place c → j ≡ stack_place n c → {a : Bool} → a ≡ eqb (get_or book i 0) c && eqb (get_or book j 0) c
+    → a ≡ own_b (st n slots masks book) c
 own_by n slots masks book c i j h p q e =
     e ∙ ap₂ (λ (t k : ℕ). eqb t c && eqb k c) (ap (λ (i : ℕ). get_or book i 0) p ∙ sym (st_tag n slots masks book c h)) (ap (λ (i : ℕ). get_or book i 0) q ∙ sym (st_stack n slots masks book c h))
 
@@ -56,7 +57,8 @@ module _ (n : ℕ) (s : St) (most : n < 65536) (few : s.count ≤ n) (c : ℕ) (
   own_node = sym (node_free n s (8 + c) own_fork (rw (le-ltb (8 + c) 8 (omega arith), tag_of, lt-leb 65536 c (omega arith)) refl))
 
 -- ---- so do all of them below m
-module _ (n : ℕ) (slots masks book : List ℕ) (most : n < 65536) (few : get_or book count_place 0 ≤ n) (m : ℕ) (h : m ≤ get_or book count_place 0) (o : (c : ℕ) → c < m → own_b (st n slots masks book) c ≡ true) where
+module _ (n : ℕ) (slots masks book : List ℕ) (most : n < 65536) (few : get_or book count_place 0 ≤ n) (m : ℕ) (h : m ≤ get_or book count_place 0)
+    (o : (c : ℕ) → c < m → own_b (st n slots masks book) c ≡ true) where
   pub own_stack : every (stacked_b n (st n slots masks book)) m ≡ true
   unfolding st
   own_stack = every_intro _ m (λ c l. own_stacked n (st n slots masks book) most few c (omega arith) (o c l))

@@ -105,7 +105,8 @@ fn stacked(book: &[u32], n: usize, i: usize) -> bool
 
 // Each place of the stack below the count of free cells, where those below `from` are known to pass.
 fn all_stacked(book: &[u32], n: usize, from: usize) -> bool
-    requires { (Booked n book.now) × (get_or book.now count_place 0 ≤ n) × (from ≤ get_or book.now count_place 0) × ((slots masks : List ℕ) → every (stacked_b n (st n slots masks book.now)) from ≡ true) }
+    requires { (Booked n book.now) × (get_or book.now count_place 0 ≤ n) × (from ≤ get_or book.now count_place 0)
+        × ((slots masks : List ℕ) → every (stacked_b n (st n slots masks book.now)) from ≡ true) }
     ensures { (slots masks : List ℕ) → result ≡ every (stacked_b n (st n slots masks book.now)) (get_or book.now count_place 0) }
 {
     let m = cells::count(book);

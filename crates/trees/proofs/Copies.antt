@@ -364,7 +364,8 @@ module _ (n : ℕ) (sl mk book : List ℕ) (x k : ℕ) (ik : In n x k) {q : ℕ}
       where
         out : 64 ≤ k % 64 + 1 + count_leading_zeros 64 w → word_bit (moved mk q k) (count_leading_zeros 64 w) ≡ false
         out h = elim (lt_or_le (count_leading_zeros 64 w + 1) 64) [
-          | inl l ↦ shl_bit (get_or mk (q / 64) 0 * 2 ^ (k % 64) % 2 ^ 64) 1 (count_leading_zeros 64 w) lead.within l ∙ shl_bit_out (get_or mk (q / 64) 0) (k % 64) (count_leading_zeros 64 w + 1) l (omega arith)
+          | inl l ↦ shl_bit (get_or mk (q / 64) 0 * 2 ^ (k % 64) % 2 ^ 64) 1 (count_leading_zeros 64 w) lead.within l ∙ shl_bit_out (get_or mk (q / 64) 0) (k % 64)
+              (count_leading_zeros 64 w + 1) l (omega arith)
           | inr l ↦ shl_bit_out (get_or mk (q / 64) 0 * 2 ^ (k % 64) % 2 ^ 64) 1 (count_leading_zeros 64 w) lead.within l
         ]
 

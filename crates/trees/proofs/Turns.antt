@@ -208,7 +208,8 @@ module _ (n : ℕ) (sl mk book : List ℕ) (x : ℕ) (hx : 8 ≤ x) (nx : x < 8 
         let u = spread_in n 0 (λ i. get_or sl i 0) i ∙ ap (λ (i : ℕ). get_or sl i 0) w in
         ap (flat_s (Cut t) x m) (each_cut m (omega arith)) ∙ hide_is x m (cut_s m) t
         ∙ st_ext _ _ (λ _ _. refl) (λ _ _. refl)
-        (λ z j. (λ i. at2 (dealt n false (λ i. bit_of mk (64 * (64 + n) + i)) x kept m) x m (v i && not (cuts t (u i))) z j) ∙ dealt_more n false (λ i. bit_of mk (64 * (64 + n) + i)) x kept hx m (omega arith) i z j)
+        (λ z j. (λ i. at2 (dealt n false (λ i. bit_of mk (64 * (64 + n) + i)) x kept m) x m (v i && not (cuts t (u i))) z j) ∙ dealt_more n false
+        (λ i. bit_of mk (64 * (64 + n) + i)) x kept hx m (omega arith) i z j)
         refl (λ _. refl) (λ _. refl) (λ _. refl)
 
     pub leaf_cut : (mk' : List ℕ) (b : ℕ) → ((k : ℕ) → word_bit b k ≡ cuts t (get_or sl (64 * (64 + (x - 8)) + k % 64) 0))

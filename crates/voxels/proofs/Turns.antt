@@ -90,7 +90,8 @@ pub record Edit (x : Point → Act) (need : Reach → ℕ) (does : ℕ → Point
   allowed : (m : Mem) (i : ℕ) (p : Point) → grants 3 (2 ∷ 2 ∷ []) lent (One i (x p)) m ≡ cond (sound_b (cells_of m) (pool_of m)) (turn done) loose
   barred : (m : Mem) (i : ℕ) (p : Point) → i < 8 → fits m ≡ true → refusal (reads_in m) (One i (x p)) ≡ or_none (blocked_r (cells_of m) (pool_of m) (walk m i p) (need (walk m i p)))
   suffices : (m : Mem) (i : ℕ) (p : Point) → refusal (reads_in m) (One i (x p)) ≡ none → need (walk m i p) ≤ (pool_of m).count
-  right : (m : Mem) (i : ℕ) (p : Point) → i < 8 → SoundMem m → need (walk m i p) ≤ (pool_of m).count → Turned (cells_of m) 2 i (pool_of m) (does (cells_of m) p i (pool_of m)) (leaves p (tree_at 2 (pool_of m) i))
+  right : (m : Mem) (i : ℕ) (p : Point) → i < 8 → SoundMem m → need (walk m i p) ≤ (pool_of m).count → Turned (cells_of m) 2 i (pool_of m) (does (cells_of m) p i (pool_of m))
+      (leaves p (tree_at 2 (pool_of m) i))
   acts : (s : Seat 3 (2 ∷ 2 ∷ [])) (p : Point) → (act 3 (2 ∷ 2 ∷ []) (x p) s).1 ≡ record { grid = leaves p s.grid; filled = false }
   clean : (n : ℕ) (p : Point) (i : ℕ) (s : St) → n < 65536 → Unspoilt s (does n p i s)
   same : (n : ℕ) (p : Point) → does n p ≡ does n (point_of (voxel_of p))

@@ -21,4 +21,5 @@ returns c =
     let ws = c.args.ws.now in
     let m = c.unused_mask in
     let fits : (q : ℕ) → get_or ws q 0 < 2 ^ 64 = λ q. (c.type_inv.ws q).fits in
-    gathered_is (λ k. not (bit_of ws k)) _ (λ q. has_not (bit_of ws) q (get_or ws q 0) (fits q) (has_own ws q)) (λ q. ones_sub-lt 64 _) c.requires m.result m.ensures c.loop-i.invariant c.loop-i-test.false ∙ full_by ws c.args.n
+    gathered_is (λ k. not (bit_of ws k)) _ (λ q. has_not (bit_of ws) q (get_or ws q 0) (fits q) (has_own ws q)) (λ q. ones_sub-lt 64 _) c.requires m.result m.ensures c.loop-i.invariant
+    c.loop-i-test.false ∙ full_by ws c.args.n

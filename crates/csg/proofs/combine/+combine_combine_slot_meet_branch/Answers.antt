@@ -5,7 +5,8 @@ use native.Mathlib.Omega.{arith}
 use Rattle.nodes.proofs.States.{cells_of, sized_kept, word_may}
 use Rattle.nodes.proofs.Each.{each_none, each_more}
 use Rattle.trees.specs.Combine.{join_o}
-use Rattle.csg.proofs.Combines.{stands_x, stands_y, in_x, in_y, kid_y, leaf_may, take_low, branch_taken, branch_joined, cells_may, slot_stays, slot_branch, slot_value, upto_may, combine_leaf, combine_all}
+use Rattle.csg.proofs.Combines.{stands_x, stands_y, in_x, in_y, kid_y, leaf_may, take_low, branch_taken, branch_joined, pair_may, slot_stays}
+use Rattle.csg.proofs.Combines.{slot_branch, slot_value, upto_may, combine_leaf, combine_all}
 use Rattle.csg.proofs.combine.+combine_combine_slot_meet_branch.Goals as goal
 
 pub combine-join_leaf-requires : goal.combine-join_leaf-requires
@@ -27,7 +28,12 @@ pub combine-loop-k-init : goal.combine-loop-k-init
 combine-loop-k-init t c = (omega arith, c.requires.0, each_none _ _)
 
 pub combine-combine_slot-requires : goal.combine-combine_slot-requires
-combine-combine_slot-requires t c = let h = c.if-level-eq0.false in let m = c.size_in-m.ensures in let i = c.loop-k.invariant in let p = c.requires in (omega arith, (i.1, upto_may (join_o c.args.join) c.args.level _ _ c.loop-k.k h p.1 (omega (arith, m, i.0)) i.2, omega arith, omega (arith, m, c.loop-k-test.true)))
+combine-combine_slot-requires t c =
+    let h = c.if-level-eq0.false in
+    let m = c.size_in-m.ensures in
+    let i = c.loop-k.invariant in
+    let p = c.requires in
+    (omega arith, (i.1, upto_may (join_o c.args.join) c.args.level _ _ c.loop-k.k h p.1 (omega (arith, m, i.0)) i.2, omega arith, omega (arith, m, c.loop-k-test.true)))
 
 pub combine-overflow_add-k : goal.combine-overflow_add-k
 combine-overflow_add-k t c = omega (arith, c.loop-k-test.true)
@@ -36,7 +42,11 @@ pub combine-loop-k-smaller : goal.combine-loop-k-smaller
 combine-loop-k-smaller t c = omega (arith, c.loop-k-test.true)
 
 pub combine-loop-k-preserved : goal.combine-loop-k-preserved
-combine-loop-k-preserved t c = (omega (arith, c.loop-k-test.true), sized_kept c.loop-k.invariant.1 c.combine_slot.auto.slots c.combine_slot.auto.masks c.combine_slot.auto.book, each_more _ _ _ c.loop-k.invariant.2 c.combine_slot.ensures)
+combine-loop-k-preserved t c = (
+  omega (arith, c.loop-k-test.true),
+  sized_kept c.loop-k.invariant.1 c.combine_slot.auto.slots c.combine_slot.auto.masks c.combine_slot.auto.book,
+  each_more _ _ _ c.loop-k.invariant.2 c.combine_slot.ensures,
+)
 
 pub combine-shape_of-slots : goal.combine-shape_of-slots
 combine-shape_of-slots t c = c.loop-k.invariant.1.slots_fit ∙ sym c.requires.0.slots_fit
@@ -78,7 +88,8 @@ pub combine_slot-shape_of-book-then-is_branch : goal.combine_slot-shape_of-book-
 combine_slot-shape_of-book-then-is_branch t c = c.meet_branch.auto.book
 
 pub combine_slot-returns-then-is_branch : goal.combine_slot-returns-then-is_branch
-combine_slot-returns-then-is_branch t c = slot_branch (join_o c.args.join) c.requires.0 c.requires.1 c.requires.3 (c.stays.ensures _) c.if-stays.false c.is_branch.ensures c.if-is_branch.true c.meet_branch.ensures
+combine_slot-returns-then-is_branch t c = slot_branch (join_o c.args.join) c.requires.0 c.requires.1 c.requires.3 (c.stays.ensures _) c.if-stays.false c.is_branch.ensures
+    c.if-is_branch.true c.meet_branch.ensures
 
 pub combine_slot-meet_value-requires : goal.combine_slot-meet_value-requires
 combine_slot-meet_value-requires t c = c.requires
@@ -120,13 +131,13 @@ pub meet_branch-word-d-requires : goal.meet_branch-word-d-requires
 meet_branch-word-d-requires t c = let p = c.requires in word_may (cells_of p.0) (in_y p.1 p.3)
 
 pub meet_branch-overflow_add-c : goal.meet_branch-overflow_add-c
-meet_branch-overflow_add-c t c = let p = c.requires in omega (arith, (stands_x (cells_may (join_o c.args.join) p.0 p.1 p.3 c.is_branch.ensures (ap not c.if-not-is_branch.false) c.word-c.ensures c.word-d.ensures p.2 p.4)).node, c.requires.0.most)
+meet_branch-overflow_add-c t c = omega (arith, (stands_x (pair_may c.requires c.is_branch.ensures c.if-not-is_branch.false c.word-c.ensures c.word-d.ensures)).node, c.requires.0.most)
 
 pub meet_branch-overflow_add-d : goal.meet_branch-overflow_add-d
-meet_branch-overflow_add-d t c = let p = c.requires in omega (arith, (stands_y (cells_may (join_o c.args.join) p.0 p.1 p.3 c.is_branch.ensures (ap not c.if-not-is_branch.false) c.word-c.ensures c.word-d.ensures p.2 p.4)).node, c.requires.0.most)
+meet_branch-overflow_add-d t c = omega (arith, (stands_y (pair_may c.requires c.is_branch.ensures c.if-not-is_branch.false c.word-c.ensures c.word-d.ensures)).node, c.requires.0.most)
 
 pub meet_branch-join_leaf-requires : goal.meet_branch-join_leaf-requires
-meet_branch-join_leaf-requires t c = let p = c.requires in leaf_may (omega (arith, c.if-level-eq1.true)) c.requires.0 (cells_may (join_o c.args.join) p.0 p.1 p.3 c.is_branch.ensures (ap not c.if-not-is_branch.false) c.word-c.ensures c.word-d.ensures p.2 p.4)
+meet_branch-join_leaf-requires t c = leaf_may (omega (arith, c.if-level-eq1.true)) c.requires.0 (pair_may c.requires c.is_branch.ensures c.if-not-is_branch.false c.word-c.ensures c.word-d.ensures)
 
 pub meet_branch-shape_of-slots-then-level-eq1 : goal.meet_branch-shape_of-slots-then-level-eq1
 meet_branch-shape_of-slots-then-level-eq1 t c = c.join_leaf.auto.slots
@@ -135,19 +146,22 @@ pub meet_branch-shape_of-masks-then-level-eq1 : goal.meet_branch-shape_of-masks-
 meet_branch-shape_of-masks-then-level-eq1 t c = c.join_leaf.auto.masks
 
 pub meet_branch-returns-then-level-eq1 : goal.meet_branch-returns-then-level-eq1
-meet_branch-returns-then-level-eq1 t c = let p = c.requires in branch_joined (join_o c.args.join) p.0 p.1 p.3 c.is_branch.ensures (ap not c.if-not-is_branch.false) c.word-c.ensures c.word-d.ensures (combine_leaf _ _ _ _ _ (c.args.level - 1) (omega (arith, c.if-level-eq1.true)) (c.join_leaf.ensures _))
+meet_branch-returns-then-level-eq1 t c =
+    let p = c.requires in
+    branch_joined (join_o c.args.join) p.0 p.1 p.3 c.is_branch.ensures (ap not c.if-not-is_branch.false) c.word-c.ensures c.word-d.ensures
+    (combine_leaf _ _ _ _ _ (c.args.level - 1) (omega (arith, c.if-level-eq1.true)) (c.join_leaf.ensures _))
 
 pub meet_branch-overflow_sub-level : goal.meet_branch-overflow_sub-level
 meet_branch-overflow_sub-level t c = omega (arith, c.requires.2)
 
 pub meet_branch-overflow_add-c-2 : goal.meet_branch-overflow_add-c-2
-meet_branch-overflow_add-c-2 t c = let p = c.requires in omega (arith, (stands_x (cells_may (join_o c.args.join) p.0 p.1 p.3 c.is_branch.ensures (ap not c.if-not-is_branch.false) c.word-c.ensures c.word-d.ensures p.2 p.4)).node, c.requires.0.most)
+meet_branch-overflow_add-c-2 t c = omega (arith, (stands_x (pair_may c.requires c.is_branch.ensures c.if-not-is_branch.false c.word-c.ensures c.word-d.ensures)).node, c.requires.0.most)
 
 pub meet_branch-overflow_add-d-2 : goal.meet_branch-overflow_add-d-2
-meet_branch-overflow_add-d-2 t c = let p = c.requires in omega (arith, (stands_y (cells_may (join_o c.args.join) p.0 p.1 p.3 c.is_branch.ensures (ap not c.if-not-is_branch.false) c.word-c.ensures c.word-d.ensures p.2 p.4)).node, c.requires.0.most)
+meet_branch-overflow_add-d-2 t c = omega (arith, (stands_y (pair_may c.requires c.is_branch.ensures c.if-not-is_branch.false c.word-c.ensures c.word-d.ensures)).node, c.requires.0.most)
 
 pub meet_branch-combine-requires : goal.meet_branch-combine-requires
-meet_branch-combine-requires t c = let p = c.requires in (omega (arith, c.requires.2), (c.requires.0, cells_may (join_o c.args.join) p.0 p.1 p.3 c.is_branch.ensures (ap not c.if-not-is_branch.false) c.word-c.ensures c.word-d.ensures p.2 p.4))
+meet_branch-combine-requires t c = (omega (arith, c.requires.2), (c.requires.0, pair_may c.requires c.is_branch.ensures c.if-not-is_branch.false c.word-c.ensures c.word-d.ensures))
 
 pub meet_branch-shape_of-slots : goal.meet_branch-shape_of-slots
 meet_branch-shape_of-slots t c = c.combine.auto.slots

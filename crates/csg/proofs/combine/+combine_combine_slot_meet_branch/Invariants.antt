@@ -16,7 +16,8 @@ abbrev pub decreases-meet_branch : goal.decreases-meet_branch
 decreases-meet_branch l = l.level * 3
 
 abbrev pub invariant-combine-loop-k : goal.invariant-combine-loop-k
-invariant-combine-loop-k l = (l.k ≤ l.m) × Sized l.n l.slots l.masks l.book × (st l.n l.slots l.masks l.book ≡ each_s (step (join_o l.join) l.n (l.level - 1) l.x l.y) l.k (st l.n l.initial.slots l.initial.masks l.initial.book))
+invariant-combine-loop-k l = (l.k ≤ l.m) × Sized l.n l.slots l.masks l.book
+    × (st l.n l.slots l.masks l.book ≡ each_s (step (join_o l.join) l.n (l.level - 1) l.x l.y) l.k (st l.n l.initial.slots l.initial.masks l.initial.book))
 
 abbrev pub decreases-combine-loop-k : goal.decreases-combine-loop-k
 decreases-combine-loop-k l = l.m - l.k

@@ -7,7 +7,8 @@ pub word-requires : goal.word-requires
 word-requires c = let p = c.requires in word_may (cells_of p.0) (in_y p.1 p.3)
 
 pub returns-then-negative_word-settled_by : goal.returns-then-negative_word-settled_by
-returns-then-negative_word-settled_by c = value_stays (join_o c.args.join) c.requires.0 c.requires.1 c.requires.3 c.word.ensures c.negative_word.ensures c.settled_by.ensures c.if-negative_word-settled_by.true
+returns-then-negative_word-settled_by c = value_stays (join_o c.args.join) c.requires.0 c.requires.1 c.requires.3 c.word.ensures c.negative_word.ensures c.settled_by.ensures
+    c.if-negative_word-settled_by.true
 
 pub settle-requires : goal.settle-requires
 settle-requires c = let p = c.requires in (p.0, stands_x p.1, in_x p.1 p.3, p.2)

@@ -15,4 +15,5 @@ returns-then-n-count c = release_full _ _ _ _ (c.word-c.ensures ∙ sym (st_slot
 
 pub returns : goal.returns
 unfolding far_with
-returns c = release_by _ _ _ _ (c.word-c.ensures ∙ sym (st_slot _ _ _ c.requires.1)) (c.count.ensures ∙ sym (st_count _ _ _ _)) c.if-n-c.false c.if-n-count.false c.far_word.ensures (c.give.ensures _ _) (c.set_slot.ensures _)
+returns c = release_by _ _ _ _ (c.word-c.ensures ∙ sym (st_slot _ _ _ c.requires.1)) (c.count.ensures ∙ sym (st_count _ _ _ _)) c.if-n-c.false c.if-n-count.false c.far_word.ensures
+    (c.give.ensures _ _) (c.set_slot.ensures _)

@@ -25,4 +25,8 @@ pub bounds-book-c : goal.bounds-book-c
 bounds-book-c c = simp length-set (omega (arith, take_low _ _ [] c.requires.0 [] [] c.requires.1 c.count-last.ensures c.stacked-c.ensures))
 
 pub returns : goal.returns
-returns c = (take_low _ _ [] c.requires.0 [] [] c.requires.1 c.count-last.ensures c.stacked-c.ensures, λ slots masks. take_by _ _ _ c.requires.0 slots masks c.requires.1 c.count-last.ensures c.stacked-c.ensures _ _ refl)
+returns c = (
+  take_low _ _ [] c.requires.0 [] [] c.requires.1 c.count-last.ensures c.stacked-c.ensures,
+  λ slots masks. take_by _ _ _ c.requires.0 slots masks c.requires.1 c.count-last.ensures
+      c.stacked-c.ensures _ _ refl,
+)

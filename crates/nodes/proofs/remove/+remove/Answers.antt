@@ -45,13 +45,18 @@ pub overflow_add-c : goal.overflow_add-c
 overflow_add-c t c = omega (arith, split_low _ _ _ (sym c.in-Go.is ∙ c.split-t.ensures.0), c.requires.0.most)
 
 pub remove-requires : goal.remove-requires
-remove-requires t c = let h = c.if-level-eq0.false in (omega arith, (sized_kept c.requires.0 c.split-t.auto.slots c.split-t.auto.masks c.split-t.auto.book, stands_below c.requires.1 h _ (split_low _ _ _ (sym c.in-Go.is ∙ c.split-t.ensures.0))))
+remove-requires t c =
+    let h = c.if-level-eq0.false in
+    (omega arith, (sized_kept c.requires.0 c.split-t.auto.slots c.split-t.auto.masks c.split-t.auto.book, stands_below c.requires.1 h _ (split_low _ _ _ (sym c.in-Go.is ∙ c.split-t.ensures.0))))
 
 pub overflow_sub-level-then-old : goal.overflow_sub-level-then-old
 overflow_sub-level-then-old t c = let h = c.if-level-eq0.false in omega arith
 
 pub shut-requires : goal.shut-requires
-shut-requires t c = (sized_kept c.requires.0 (c.remove.auto.slots ∙ c.split-t.auto.slots) (c.remove.auto.masks ∙ c.split-t.auto.masks) (c.remove.auto.book ∙ c.split-t.auto.book), (slot_in _ c.requires.1 c.slot_in-k.ensures))
+shut-requires t c = (
+  sized_kept c.requires.0 (c.remove.auto.slots ∙ c.split-t.auto.slots) (c.remove.auto.masks ∙ c.split-t.auto.masks) (c.remove.auto.book ∙ c.split-t.auto.book),
+  (slot_in _ c.requires.1 c.slot_in-k.ensures),
+)
 
 pub shape_of-slots-then-old : goal.shape_of-slots-then-old
 shape_of-slots-then-old t c = c.shut.auto.slots ∙ c.remove.auto.slots ∙ c.split-t.auto.slots
@@ -63,7 +68,8 @@ pub shape_of-book-then-old : goal.shape_of-book-then-old
 shape_of-book-then-old t c = c.shut.auto.book ∙ c.remove.auto.book ∙ c.split-t.auto.book
 
 pub returns-then-old : goal.returns-then-old
-returns-then-old t c = remove_back _ c.args.level _ _ _ c.slot_in-k.ensures _ c.if-level-eq0.false (c.view-s.ensures _) (sym c.in-Go.is ∙ c.split-t.ensures.0, c.split-t.ensures.1) c.remove.ensures (c.kid-old.ensures ∙ sym (st_kid _ _ _ (slot_in _ c.requires.1 c.slot_in-k.ensures))) c.if-old.true c.shut.ensures
+returns-then-old t c = remove_back _ c.args.level _ _ _ c.slot_in-k.ensures _ c.if-level-eq0.false (c.view-s.ensures _) (sym c.in-Go.is ∙ c.split-t.ensures.0, c.split-t.ensures.1)
+    c.remove.ensures (c.kid-old.ensures ∙ sym (st_kid _ _ _ (slot_in _ c.requires.1 c.slot_in-k.ensures))) c.if-old.true c.shut.ensures
 
 pub shape_of-slots-else-old : goal.shape_of-slots-else-old
 shape_of-slots-else-old t c = c.remove.auto.slots ∙ c.split-t.auto.slots
@@ -75,4 +81,5 @@ pub shape_of-book-else-old : goal.shape_of-book-else-old
 shape_of-book-else-old t c = c.remove.auto.book ∙ c.split-t.auto.book
 
 pub returns-else-old : goal.returns-else-old
-returns-else-old t c = remove_new _ c.args.level _ _ _ c.slot_in-k.ensures _ c.if-level-eq0.false (c.view-s.ensures _) (sym c.in-Go.is ∙ c.split-t.ensures.0, c.split-t.ensures.1) c.remove.ensures (c.kid-old.ensures ∙ sym (st_kid _ _ _ (slot_in _ c.requires.1 c.slot_in-k.ensures))) c.if-old.false
+returns-else-old t c = remove_new _ c.args.level _ _ _ c.slot_in-k.ensures _ c.if-level-eq0.false (c.view-s.ensures _) (sym c.in-Go.is ∙ c.split-t.ensures.0, c.split-t.ensures.1)
+    c.remove.ensures (c.kid-old.ensures ∙ sym (st_kid _ _ _ (slot_in _ c.requires.1 c.slot_in-k.ensures))) c.if-old.false

@@ -11,4 +11,5 @@ pub returns-then-level-eq0 : goal.returns-then-level-eq0
 returns-then-level-eq0 c = λ slots book. bare_leaf _ _ c.args.level (val_word slots _ book c.requires.1 c.clear.ensures) (not-false _ (ap not c.if-not-clear.false)) c.if-level-eq0.true
 
 pub returns : goal.returns
-returns c = λ slots book. bare_fork _ _ c.args.level (val_word slots _ book c.requires.1 c.clear.ensures) (not-false _ (ap not c.if-not-clear.false)) c.if-level-eq0.false (kid_word slots _ book c.requires.1 c.clear-2.ensures)
+returns c = λ slots book. bare_fork _ _ c.args.level (val_word slots _ book c.requires.1 c.clear.ensures) (not-false _ (ap not c.if-not-clear.false)) c.if-level-eq0.false
+    (kid_word slots _ book c.requires.1 c.clear-2.ensures)

@@ -33,7 +33,8 @@ returns-then-d-n t c = λ book p e.
     let a = c.args in
     let k = a.t % 64 in
     let low = c.requires.1 in
-    place_go _ (st a.n a.slots.now a.masks.now book) a.level (8 + a.c) p (path_slot a.level a.t p low e) c.if-level-eq0.false (c.lead-d.ensures book (8 + a.c) k (cell_in c.requires.2 (8 + a.c) k refl (omega arith)) (cell_word a.c k)) c.if-d-n.true
+    place_go _ (st a.n a.slots.now a.masks.now book) a.level (8 + a.c) p (path_slot a.level a.t p low e) c.if-level-eq0.false
+    (c.lead-d.ensures book (8 + a.c) k (cell_in c.requires.2 (8 + a.c) k refl (omega arith)) (cell_word a.c k)) c.if-d-n.true
     (c.find.ensures book p (path_rest a.level a.t p low c.if-level-eq0.false e))
 
 pub ended-requires-then-d-n-2 : goal.ended-requires-then-d-n-2
@@ -44,7 +45,8 @@ returns-then-d-n-2 t c = λ book p e.
     let a = c.args in
     let k = a.t % 64 in
     let low = c.requires.1 in
-    place_end _ (st a.n a.slots.now a.masks.now book) a.level (8 + a.c) p (path_slot a.level a.t p low e) c.if-level-eq0.false (c.lead-d.ensures book (8 + a.c) k (cell_in c.requires.2 (8 + a.c) k refl (omega arith)) (cell_word a.c k)) c.if-d-n-2.true
+    place_end _ (st a.n a.slots.now a.masks.now book) a.level (8 + a.c) p (path_slot a.level a.t p low e) c.if-level-eq0.false
+    (c.lead-d.ensures book (8 + a.c) k (cell_in c.requires.2 (8 + a.c) k refl (omega arith)) (cell_word a.c k)) c.if-d-n-2.true
     (omega (arith, c.ended-then-d-n-2.ensures, cell_word a.c k))
 
 pub returns : goal.returns
@@ -52,4 +54,5 @@ returns t c = λ book p e.
     let a = c.args in
     let k = a.t % 64 in
     let low = c.requires.1 in
-    place_out _ (st a.n a.slots.now a.masks.now book) a.level (8 + a.c) p (path_slot a.level a.t p low e) c.if-level-eq0.false (c.lead-d.ensures book (8 + a.c) k (cell_in c.requires.2 (8 + a.c) k refl (omega arith)) (cell_word a.c k)) c.if-d-n.false c.if-d-n-2.false refl
+    place_out _ (st a.n a.slots.now a.masks.now book) a.level (8 + a.c) p (path_slot a.level a.t p low e) c.if-level-eq0.false
+    (c.lead-d.ensures book (8 + a.c) k (cell_in c.requires.2 (8 + a.c) k refl (omega arith)) (cell_word a.c k)) c.if-d-n.false c.if-d-n-2.false refl

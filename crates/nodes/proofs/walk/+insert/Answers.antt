@@ -45,7 +45,16 @@ pub overflow_add-c : goal.overflow_add-c
 overflow_add-c t c = omega (arith, step_low _ _ _ _ (sym c.in-Go.is ∙ c.descend-t.ensures.0), c.requires.0.most)
 
 pub insert-requires : goal.insert-requires
-insert-requires t c = let h = c.if-level-eq0.false in (omega arith, (sized_kept c.requires.0 c.descend-t.auto.slots c.descend-t.auto.masks c.descend-t.auto.book, stands_below c.requires.1 h _ (step_low _ _ _ _ (sym c.in-Go.is ∙ c.descend-t.ensures.0)), c.requires.2))
+insert-requires t c =
+    let h = c.if-level-eq0.false in (
+      omega arith,
+      (
+        sized_kept c.requires.0 c.descend-t.auto.slots c.descend-t.auto.masks c.descend-t.auto.book,
+        stands_below c.requires.1 h _
+            (step_low _ _ _ _ (sym c.in-Go.is ∙ c.descend-t.ensures.0)),
+        c.requires.2,
+      ),
+    )
 
 pub shape_of-slots : goal.shape_of-slots
 shape_of-slots t c = c.insert.auto.slots ∙ c.descend-t.auto.slots

@@ -8,7 +8,8 @@ use Rattle.nodes.proofs.wipe.give_linked.Given as goal
 
 abbrev pub invariant-loop-rest : goal.invariant-loop-rest
 invariant-loop-rest l =
-    (l.rest < 2 ^ 64) × Sized l.n l.slots l.masks l.book × (each_s (some_s (return_at l.n (8 + l.c)) l.rest) 64 (st l.n l.slots l.masks l.book) ≡ each_s (unlink_s l.n (8 + l.c)) 64 (st l.n l.slots l.masks l.initial.book))
+    (l.rest < 2 ^ 64) × Sized l.n l.slots l.masks l.book × (each_s (some_s (return_at l.n (8 + l.c)) l.rest) 64 (st l.n l.slots l.masks l.book) ≡ each_s (unlink_s l.n (8 + l.c)) 64
+    (st l.n l.slots l.masks l.initial.book))
 
 abbrev pub decreases-loop-rest : goal.decreases-loop-rest
 decreases-loop-rest l = l.rest

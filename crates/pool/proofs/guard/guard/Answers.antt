@@ -16,7 +16,11 @@ pub sound-requires : goal.sound-requires
 sound-requires c = let a = c.args in is_sized (mem_of a.slots.now a.masks.now a.book.now) _ c.cells-n.ensures c.if-n-eq0.false
 
 pub returns-then-not-sound : goal.returns-then-not-sound
-returns-then-not-sound c = let a = c.args in guard_5 (mem_of a.slots.now a.masks.now a.book.now) _ c.cells-n.ensures a.given c.if-n-eq0.false c.if-given-ne0.false _ c.sound.ensures (not-true _ (ap not c.if-not-sound.true))
+returns-then-not-sound c =
+    let a = c.args in
+    guard_5 (mem_of a.slots.now a.masks.now a.book.now) _ c.cells-n.ensures a.given c.if-n-eq0.false c.if-given-ne0.false _ c.sound.ensures (not-true _ (ap not c.if-not-sound.true))
 
 pub returns : goal.returns
-returns c = let a = c.args in guard_0 (mem_of a.slots.now a.masks.now a.book.now) _ c.cells-n.ensures a.given c.if-n-eq0.false c.if-given-ne0.false _ c.sound.ensures (not-false _ (ap not c.if-not-sound.false))
+returns c =
+    let a = c.args in
+    guard_0 (mem_of a.slots.now a.masks.now a.book.now) _ c.cells-n.ensures a.given c.if-n-eq0.false c.if-given-ne0.false _ c.sound.ensures (not-false _ (ap not c.if-not-sound.false))

@@ -17,7 +17,11 @@ pub returns-then-book-b-ne1 : goal.returns-then-book-b-ne1
 returns-then-book-b-ne1 c = let a = c.args in filled_second (mem_of a.slots.now a.masks.now a.book.now) c.requires.0 a.a a.b c.requires.1 c.requires.2 (omega arith) c.if-book-b-ne1.true
 
 pub returns-then-no-ne0 : goal.returns-then-no-ne0
-returns-then-no-ne0 c = let a = c.args in filled_7 (mem_of a.slots.now a.masks.now a.book.now) c.requires.0 a.a a.b c.requires.1 c.requires.2 (omega arith) c.if-book-b-ne1.false c.solid-no.ensures c.if-no-ne0.true
+returns-then-no-ne0 c =
+    let a = c.args in
+    filled_7 (mem_of a.slots.now a.masks.now a.book.now) c.requires.0 a.a a.b c.requires.1 c.requires.2 (omega arith) c.if-book-b-ne1.false c.solid-no.ensures c.if-no-ne0.true
 
 pub returns : goal.returns
-returns c = let a = c.args in filled_last (mem_of a.slots.now a.masks.now a.book.now) c.requires.0 a.a a.b c.requires.1 c.requires.2 (omega arith) c.if-book-b-ne1.false c.solid-no.ensures c.if-no-ne0.false c.solid.ensures
+returns c =
+    let a = c.args in
+    filled_last (mem_of a.slots.now a.masks.now a.book.now) c.requires.0 a.a a.b c.requires.1 c.requires.2 (omega arith) c.if-book-b-ne1.false c.solid-no.ensures c.if-no-ne0.false c.solid.ensures

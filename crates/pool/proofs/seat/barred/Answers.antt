@@ -6,7 +6,12 @@ pub returns-then-no-ne0 : goal.returns-then-no-ne0
 returns-then-no-ne0 c = let a = c.args in barred_first a.task a.seat (mem_of a.slots.now a.masks.now a.book.now) c.given.ensures c.one_given.ensures c.guard-no.ensures c.if-no-ne0.true
 
 pub solid-requires : goal.solid-requires
-solid-requires c = let a = c.args in (barred_fits a.task a.seat (mem_of a.slots.now a.masks.now a.book.now) c.given.ensures c.one_given.ensures c.guard-no.ensures c.if-no-ne0.false, barred_seat a.task a.seat (mem_of a.slots.now a.masks.now a.book.now) c.given.ensures c.one_given.ensures c.guard-no.ensures c.if-no-ne0.false)
+solid-requires c =
+    let a = c.args in (
+      barred_fits a.task a.seat (mem_of a.slots.now a.masks.now a.book.now) c.given.ensures c.one_given.ensures c.guard-no.ensures c.if-no-ne0.false,
+      barred_seat a.task a.seat
+          (mem_of a.slots.now a.masks.now a.book.now) c.given.ensures c.one_given.ensures c.guard-no.ensures c.if-no-ne0.false,
+    )
 
 pub returns-in-Fill : goal.returns-in-Fill
 returns-in-Fill c = let a = c.args in barred_fill a.task a.seat (mem_of a.slots.now a.masks.now a.book.now) c.given.ensures c.one_given.ensures c.guard-no.ensures c.if-no-ne0.false c.in-Fill.is
@@ -18,4 +23,6 @@ pub returns-in-Turn : goal.returns-in-Turn
 returns-in-Turn c = let a = c.args in barred_turn a.task a.seat (mem_of a.slots.now a.masks.now a.book.now) c.given.ensures c.one_given.ensures c.guard-no.ensures c.if-no-ne0.false c.in-Turn.is
 
 pub returns-in-Signs : goal.returns-in-Signs
-returns-in-Signs c = let a = c.args in barred_signs a.task a.seat (mem_of a.slots.now a.masks.now a.book.now) c.given.ensures c.one_given.ensures c.guard-no.ensures c.if-no-ne0.false c.in-Signs.is _ c.solid.ensures
+returns-in-Signs c =
+    let a = c.args in
+    barred_signs a.task a.seat (mem_of a.slots.now a.masks.now a.book.now) c.given.ensures c.one_given.ensures c.guard-no.ensures c.if-no-ne0.false c.in-Signs.is _ c.solid.ensures

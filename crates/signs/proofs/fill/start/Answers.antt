@@ -23,7 +23,8 @@ sign_of-requires c =
 
 pub returns-then-not-hidden : goal.returns-then-not-hidden
 returns-then-not-hidden c = λ book.
-    start_found _ _ _ _ _ _ (c.loop-k.invariant.1 book) (omega (arith, c.loop-k-test.true, c.size_in-m.ensures)) (c.hidden.ensures _ book _ c.requires.2) (ap not c.if-not-hidden.true) (c.sign_of.ensures book)
+    start_found _ _ _ _ _ _ (c.loop-k.invariant.1 book) (omega (arith, c.loop-k-test.true, c.size_in-m.ensures)) (c.hidden.ensures _ book _ c.requires.2) (ap not c.if-not-hidden.true)
+    (c.sign_of.ensures book)
 
 pub overflow_add-k : goal.overflow_add-k
 overflow_add-k c = omega (arith, c.loop-k-test.true)

@@ -9,7 +9,8 @@ use Rattle.signs.proofs.fill.start.Given as goal
 
 abbrev pub invariant-loop-k : goal.invariant-loop-k
 invariant-loop-k l = (l.k ≤ l.m)
-    × ((book : List ℕ) → start_s (below l.level) l.n (st l.n l.slots l.masks book) l.x 0 (size (branching l.level)) ≡ start_s (below l.level) l.n (st l.n l.slots l.masks book) l.x l.k (size (branching l.level) - l.k))
+    × ((book : List ℕ) → start_s (below l.level) l.n (st l.n l.slots l.masks book) l.x 0 (size (branching l.level)) ≡ start_s (below l.level) l.n (st l.n l.slots l.masks book) l.x l.k
+    (size (branching l.level) - l.k))
 
 abbrev pub decreases-loop-k : goal.decreases-loop-k
 decreases-loop-k l = l.m - l.k

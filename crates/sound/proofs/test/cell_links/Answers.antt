@@ -25,5 +25,8 @@ bounds-masks-c c = omega arith
 
 pub returns : goal.returns
 returns c =
-    let a = c.args in
-    (c.bits.ensures.1, λ slots. c.bits.ensures.0 ∙ cell_links a.n slots a.masks.now a.book.now a.c c.requires.2 (c.type_inv.masks (64 + a.c)).fits (passed _ (c.forks.ensures slots a.masks.now) (ap not c.if-not-forks.false)))
+    let a = c.args in (
+      c.bits.ensures.1,
+      λ slots. c.bits.ensures.0 ∙ cell_links a.n slots a.masks.now a.book.now a.c c.requires.2 (c.type_inv.masks (64 + a.c)).fits
+          (passed _ (c.forks.ensures slots a.masks.now) (ap not c.if-not-forks.false)),
+    )

@@ -42,7 +42,11 @@ pub loop-rest-preserved : goal.loop-rest-preserved
 loop-rest-preserved c =
     let a = c.args in
     let s = st a.n a.slots.now a.masks.now a.book.now in
-    subst (λ (r : ℕ). (r < 2 ^ 64) × (group (branch_b a.n s a.x) a.j ≡ left (λ i. link_b a.n s a.x (64 * a.j + i)) r)) (sym c.without-rest.ensures) (omega (arith, less_lt (leads _ c.loop-rest-test.true c.loop-rest.invariant.0), c.loop-rest.invariant.0), left_more _ c.loop-rest.invariant.1 (leads _ c.loop-rest-test.true c.loop-rest.invariant.0) (passed _ c.link.ensures (ap not c.if-not-link.false)))
+    subst (λ (r : ℕ). (r < 2 ^ 64) × (group (branch_b a.n s a.x) a.j ≡ left (λ i. link_b a.n s a.x (64 * a.j + i)) r)) (sym c.without-rest.ensures) (
+      omega (arith, less_lt (leads _ c.loop-rest-test.true c.loop-rest.invariant.0), c.loop-rest.invariant.0),
+      left_more _ c.loop-rest.invariant.1
+          (leads _ c.loop-rest-test.true c.loop-rest.invariant.0) (passed _ c.link.ensures (ap not c.if-not-link.false)),
+    )
 
 pub returns : goal.returns
 returns c = left_none _ c.loop-rest.invariant.1 c.loop-rest-test.false

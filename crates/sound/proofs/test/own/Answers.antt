@@ -54,7 +54,8 @@ loop-i-preserved c = (
   λ slots masks.
       let l = c.loop-i in
       one_more (λ k. own_b (st c.args.n slots masks c.args.book.now) (c.args.p + k)) l.i c.both-ok.ensures
-      (own_by c.args.n slots masks c.args.book.now (c.args.p + l.i) (9 + c.args.p + l.i) (9 + c.args.n + c.args.p + l.i) (omega arith) (omega arith) (omega arith) c.both.ensures) (l.invariant.1 slots masks),
+      (own_by c.args.n slots masks c.args.book.now (c.args.p + l.i) (9 + c.args.p + l.i) (9 + c.args.n + c.args.p + l.i) (omega arith) (omega arith) (omega arith) c.both.ensures)
+      (l.invariant.1 slots masks),
 )
 
 pub returns : goal.returns

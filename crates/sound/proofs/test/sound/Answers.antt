@@ -18,8 +18,13 @@ pub all_stacked-requires : goal.all_stacked-requires
 all_stacked-requires c =
     let e = c.count-m.ensures in
     let l = c.if-n-m.false in
-    let u = c.untouched-from.ensures in
-    (record { most = c.requires.most; book_fit = c.requires.book_fit }, omega (arith, e, l), u.0, λ slots masks. own_stack _ slots masks _ c.requires.most (omega (arith, e, l)) _ u.0 (u.1 slots masks))
+    let u = c.untouched-from.ensures in (
+      record { most = c.requires.most; book_fit = c.requires.book_fit },
+      omega (arith, e, l),
+      u.0,
+      λ slots masks. own_stack _ slots masks _ c.requires.most (omega (arith, e, l)) _ u.0
+          (u.1 slots masks),
+    )
 
 pub returns-then-not-all_stacked : goal.returns-then-not-all_stacked
 returns-then-not-all_stacked c =

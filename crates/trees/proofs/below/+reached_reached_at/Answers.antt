@@ -21,7 +21,9 @@ pub reached-reached_leaves-requires : goal.reached-reached_leaves-requires
 reached-reached_leaves-requires t c = let p = c.requires in (p.0, omega (arith, p.1.node, low_cell p.1 (omega (arith, c.if-level-eq1.true))))
 
 pub reached-returns-then-level-eq1 : goal.reached-returns-then-level-eq1
-reached-returns-then-level-eq1 t c = λ book. c.reached_leaves.ensures book ∙ at_middle (λ (l x : ℕ). reached_m (branching l) (below l) c.args.n (st c.args.n c.args.slots.now c.args.masks.now book) x) _ _ c.if-level-eq1.true (low_cell c.requires.1 (omega (arith, c.if-level-eq1.true)))
+reached-returns-then-level-eq1 t c = λ book. c.reached_leaves.ensures book ∙ at_middle
+    (λ (l x : ℕ). reached_m (branching l) (below l) c.args.n (st c.args.n c.args.slots.now c.args.masks.now book) x) _ _ c.if-level-eq1.true
+    (low_cell c.requires.1 (omega (arith, c.if-level-eq1.true)))
 
 pub reached-size_in-m-requires : goal.reached-size_in-m-requires
 reached-size_in-m-requires t c = c.requires.1.known
@@ -42,7 +44,12 @@ pub reached-loop-k-smaller : goal.reached-loop-k-smaller
 reached-loop-k-smaller t c = omega (arith, c.loop-k-test.true)
 
 pub reached-loop-k-preserved : goal.reached-loop-k-preserved
-reached-loop-k-preserved t c = (omega (arith, c.loop-k-test.true), omega (arith, c.loop-k.invariant.1, c.reached_at-cells.ensures.0), λ book. sum_more _ _ (c.loop-k.invariant.2 book) (c.reached_at-cells.ensures.1 book))
+reached-loop-k-preserved t c = (
+  omega (arith, c.loop-k-test.true),
+  omega (arith, c.loop-k.invariant.1, c.reached_at-cells.ensures.0),
+  λ book. sum_more _ _ (c.loop-k.invariant.2 book)
+      (c.reached_at-cells.ensures.1 book),
+)
 
 pub reached-returns : goal.reached-returns
 reached-returns t c = λ book. reached_all _ c.args.level _ _ c.if-level-eq0.false c.size_in-m.ensures (omega (arith, c.loop-k-test.false, c.loop-k.invariant.0)) (c.loop-k.invariant.2 book)
@@ -60,10 +67,23 @@ pub reached_at-overflow_add-c : goal.reached_at-overflow_add-c
 reached_at-overflow_add-c t c = let a = c.args in omega (arith, c.requires.0.most, (child_go a.n (st a.n a.slots.now a.masks.now []) a.x a.k (sym c.in-Go.is ∙ c.child.ensures [])).low)
 
 pub reached_at-reached-requires : goal.reached_at-reached-requires
-reached_at-reached-requires t c = let a = c.args in (omega (arith, c.requires.3), (c.requires.0, stands_below c.requires.1 (λ z. omega (arith, c.requires.3)) _ (child_go a.n (st a.n a.slots.now a.masks.now []) a.x a.k (sym c.in-Go.is ∙ c.child.ensures [])).low))
+reached_at-reached-requires t c =
+    let a = c.args in (
+      omega (arith, c.requires.3),
+      (
+        c.requires.0,
+        stands_below c.requires.1 (λ z. omega (arith, c.requires.3)) _
+            (child_go a.n (st a.n a.slots.now a.masks.now []) a.x a.k (sym c.in-Go.is ∙ c.child.ensures [])).low,
+      ),
+    )
 
 pub reached_at-overflow_add-result : goal.reached_at-overflow_add-result
 reached_at-overflow_add-result t c = omega (arith, reached_few _ (c.args.level - 1) _ _ (c.reached.ensures []) (omega (arith, c.requires.1.known)))
 
 pub reached_at-returns : goal.reached_at-returns
-reached_at-returns t c = let a = c.args in (omega (arith, reached_few _ (c.args.level - 1) _ _ (c.reached.ensures []) (omega (arith, c.requires.1.known))), λ book. reached_down a.n (a.level - 1) (st a.n a.slots.now a.masks.now book) a.x a.k (sym c.in-Go.is ∙ c.child.ensures book) (c.reached.ensures book))
+reached_at-returns t c =
+    let a = c.args in (
+      omega (arith, reached_few _ (c.args.level - 1) _ _ (c.reached.ensures []) (omega (arith, c.requires.1.known))),
+      λ book. reached_down a.n (a.level - 1)
+          (st a.n a.slots.now a.masks.now book) a.x a.k (sym c.in-Go.is ∙ c.child.ensures book) (c.reached.ensures book),
+    )

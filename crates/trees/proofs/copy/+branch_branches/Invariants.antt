@@ -14,7 +14,8 @@ decreases-branches l = l.level * 2 + 1
 
 abbrev pub invariant-branches-loop-k : goal.invariant-branches-loop-k
 invariant-branches-loop-k l =
-    (l.k ≤ l.m) × Sized l.n l.slots l.masks l.book × (st l.n l.slots l.masks l.book ≡ each_s (branch_at (copy_m (branching (l.level - 1)) (below (l.level - 1)) l.n) l.n l.x l.y) l.k (st l.n l.initial.slots l.initial.masks l.initial.book))
+    (l.k ≤ l.m) × Sized l.n l.slots l.masks l.book × (st l.n l.slots l.masks l.book ≡ each_s (branch_at (copy_m (branching (l.level - 1)) (below (l.level - 1)) l.n) l.n l.x l.y) l.k
+    (st l.n l.initial.slots l.initial.masks l.initial.book))
 
 abbrev pub decreases-branches-loop-k : goal.decreases-branches-loop-k
 decreases-branches-loop-k l = l.m - l.k

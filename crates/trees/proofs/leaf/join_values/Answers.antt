@@ -40,7 +40,10 @@ pub bounds-slots-b : goal.bounds-slots-b
 bounds-slots-b c = omega (arith, c.loop-i.invariant.1.long)
 
 pub join_words-requires : goal.join_words-requires
-join_words-requires c = let g = c.loop-i.invariant.1 in let p = c.requires in (ap is_finite (given_left g _ _ (omega arith) (omega arith)) ∙ p.4 _ (omega arith), ap is_finite (given_left g _ _ (omega arith) (omega arith)) ∙ p.5 _ (omega arith))
+join_words-requires c =
+    let g = c.loop-i.invariant.1 in
+    let p = c.requires in
+    (ap is_finite (given_left g _ _ (omega arith) (omega arith)) ∙ p.4 _ (omega arith), ap is_finite (given_left g _ _ (omega arith) (omega arith)) ∙ p.5 _ (omega arith))
 
 pub overflow_add-slots : goal.overflow_add-slots
 overflow_add-slots c = omega arith

@@ -35,7 +35,12 @@ pub turn-loop-k-smaller : goal.turn-loop-k-smaller
 turn-loop-k-smaller t c = omega (arith, c.loop-k-test.true)
 
 pub turn-loop-k-preserved : goal.turn-loop-k-preserved
-turn-loop-k-preserved t c = (omega (arith, c.loop-k-test.true), sized_kept c.loop-k.invariant.1 c.turn_slot.auto.slots c.turn_slot.auto.masks c.turn_slot.auto.book, each_more _ _ _ c.loop-k.invariant.2 c.turn_slot.ensures)
+turn-loop-k-preserved t c = (
+  omega (arith, c.loop-k-test.true),
+  sized_kept c.loop-k.invariant.1 c.turn_slot.auto.slots c.turn_slot.auto.masks c.turn_slot.auto.book,
+  each_more
+      _ _ _ c.loop-k.invariant.2 c.turn_slot.ensures,
+)
 
 pub turn-shape_of-slots : goal.turn-shape_of-slots
 turn-shape_of-slots t c = c.loop-k.invariant.1.slots_fit ∙ sym c.requires.0.slots_fit
@@ -68,7 +73,11 @@ pub turn_slot-overflow_add-c : goal.turn_slot-overflow_add-c
 turn_slot-overflow_add-c t c = omega (arith, child_low _ _ c.args.book.now c.requires.2 (sym c.in-Go.is ∙ c.child.ensures _), c.requires.0.most)
 
 pub turn_slot-leaf-requires : goal.turn_slot-leaf-requires
-turn_slot-leaf-requires t c = (cells_of c.requires.0, leaf_stands (stands_below c.requires.1 (λ e. omega (arith, c.requires.3)) _ (child_low _ _ c.args.book.now c.requires.2 (sym c.in-Go.is ∙ c.child.ensures _))) (omega (arith, c.if-level-eq1.true)))
+turn_slot-leaf-requires t c = (
+  cells_of c.requires.0,
+  leaf_stands
+      (stands_below c.requires.1 (λ e. omega (arith, c.requires.3)) _ (child_low _ _ c.args.book.now c.requires.2 (sym c.in-Go.is ∙ c.child.ensures _))) (omega (arith, c.if-level-eq1.true)),
+)
 
 pub turn_slot-back-requires : goal.turn_slot-back-requires
 turn_slot-back-requires t c = (sized_kept c.requires.0 c.leaf.auto.slots c.leaf.auto.masks refl, c.requires.2)
@@ -92,7 +101,10 @@ pub turn_slot-overflow_add-c-2 : goal.turn_slot-overflow_add-c-2
 turn_slot-overflow_add-c-2 t c = omega (arith, child_low _ _ c.args.book.now c.requires.2 (sym c.in-Go.is ∙ c.child.ensures _), c.requires.0.most)
 
 pub turn_slot-turn-requires : goal.turn_slot-turn-requires
-turn_slot-turn-requires t c = (omega (arith, c.requires.3), (c.requires.0, stands_below c.requires.1 (λ e. omega (arith, c.requires.3)) _ (child_low _ _ c.args.book.now c.requires.2 (sym c.in-Go.is ∙ c.child.ensures _))))
+turn_slot-turn-requires t c = (
+  omega (arith, c.requires.3),
+  (c.requires.0, stands_below c.requires.1 (λ e. omega (arith, c.requires.3)) _ (child_low _ _ c.args.book.now c.requires.2 (sym c.in-Go.is ∙ c.child.ensures _))),
+)
 
 pub turn_slot-overflow_sub-level-2 : goal.turn_slot-overflow_sub-level-2
 turn_slot-overflow_sub-level-2 t c = omega (arith, c.requires.3)

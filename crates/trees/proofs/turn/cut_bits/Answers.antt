@@ -33,7 +33,11 @@ pub loop-i-smaller : goal.loop-i-smaller
 loop-i-smaller c = omega arith
 
 pub loop-i-preserved : goal.loop-i-preserved
-loop-i-preserved c = let a = c.args in let l = c.loop-i in let e : 4096 + 64 * a.c + l.i ≡ 64 * (64 + a.c) + l.i = omega arith in (omega arith, marked_more l.invariant.1 _ (omega arith) (λ k. c.cut_bit-bits.ensures k ∙ ap (λ (w : ℕ). cuts a.t (get_or a.slots.now w 0) && eqb (k % 64) (l.i % 64)) e))
+loop-i-preserved c =
+    let a = c.args in
+    let l = c.loop-i in
+    let e : 4096 + 64 * a.c + l.i ≡ 64 * (64 + a.c) + l.i = omega arith in
+    (omega arith, marked_more l.invariant.1 _ (omega arith) (λ k. c.cut_bit-bits.ensures k ∙ ap (λ (w : ℕ). cuts a.t (get_or a.slots.now w 0) && eqb (k % 64) (l.i % 64)) e))
 
 pub returns : goal.returns
 returns c = marked_all c.loop-i.invariant.1 (omega arith)

@@ -38,7 +38,9 @@ pub loop-i-smaller : goal.loop-i-smaller
 loop-i-smaller c = omega arith
 
 pub loop-i-preserved : goal.loop-i-preserved
-loop-i-preserved c = let g = c.loop-i.invariant.1 in (omega arith, given_more g _ _ (omega arith) (c.negated_word.ensures ∙ ap negated (given_left g _ _ (omega arith) (omega arith))) (omega arith) (omega arith))
+loop-i-preserved c =
+    let g = c.loop-i.invariant.1 in
+    (omega arith, given_more g _ _ (omega arith) (c.negated_word.ensures ∙ ap negated (given_left g _ _ (omega arith) (omega arith))) (omega arith) (omega arith))
 
 pub shape_of-slots : goal.shape_of-slots
 shape_of-slots c = c.loop-i.invariant.1.long

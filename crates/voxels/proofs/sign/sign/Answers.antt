@@ -38,4 +38,5 @@ pub returns : goal.returns
 returns c p e =
     let a = c.args in
     let h = c.if-seat-gt7.false in
-    sign_says (mem_of a.slots.now a.masks.now a.book.now) _ c.cells-n.ensures c.if-n-eq0.false a.seat a.v p h e (c.signed.ensures _ _ (point_of a.v) a.seat (omega (arith, h), c.seek-r.ensures _ _ c.path.ensures.0))
+    sign_says (mem_of a.slots.now a.masks.now a.book.now) _ c.cells-n.ensures c.if-n-eq0.false a.seat a.v p h e
+    (c.signed.ensures _ _ (point_of a.v) a.seat (omega (arith, h), c.seek-r.ensures _ _ c.path.ensures.0))

@@ -36,14 +36,18 @@ pub insert_blocked-no-requires : goal.insert_blocked-no-requires
 insert_blocked-no-requires c =
     let a = c.args in
     let h = c.if-seat-gt7.false in
-    let z = is_sized (mem_of a.slots.now a.masks.now a.book.now) _ c.cells-n.ensures c.if-n-eq0.false in
-    (z, ends_low (st _ a.slots.now a.masks.now a.book.now) (point_of a.v) z.most (omega (arith, h), c.seek-r.ensures _ (point_of a.v) c.path.ensures.0), (passed _ c.finite_word.ensures (ap not c.if-not-finite_word.false)))
+    let z = is_sized (mem_of a.slots.now a.masks.now a.book.now) _ c.cells-n.ensures c.if-n-eq0.false in (
+      z,
+      ends_low (st _ a.slots.now a.masks.now a.book.now) (point_of a.v) z.most (omega (arith, h), c.seek-r.ensures _ (point_of a.v) c.path.ensures.0),
+      (passed _ c.finite_word.ensures (ap not c.if-not-finite_word.false)),
+    )
 
 pub returns-then-no-ne0 : goal.returns-then-no-ne0
 returns-then-no-ne0 c p e =
     let a = c.args in
     let h = c.if-seat-gt7.false in
-    edit_blocked (inserting a.w (passed _ c.finite_word.ensures (ap not c.if-not-finite_word.false))) (mem_of a.slots.now a.masks.now a.book.now) _ c.cells-n.ensures c.if-n-eq0.false a.seat a.v h p e _ (c.insert_blocked-no.ensures (point_of a.v) a.seat (omega (arith, h), c.seek-r.ensures _ (point_of a.v) c.path.ensures.0)) c.if-no-ne0.true
+    edit_blocked (inserting a.w (passed _ c.finite_word.ensures (ap not c.if-not-finite_word.false))) (mem_of a.slots.now a.masks.now a.book.now) _ c.cells-n.ensures c.if-n-eq0.false
+    a.seat a.v h p e _ (c.insert_blocked-no.ensures (point_of a.v) a.seat (omega (arith, h), c.seek-r.ensures _ (point_of a.v) c.path.ensures.0)) c.if-no-ne0.true
 
 pub insert_unmark-requires : goal.insert_unmark-requires
 insert_unmark-requires c =
@@ -58,5 +62,6 @@ returns c p e =
     let h = c.if-seat-gt7.false in
     let u = c.insert_unmark in
     let k = u.auto in
-    edit_done (inserting a.w (passed _ c.finite_word.ensures (ap not c.if-not-finite_word.false))) (mem_of a.slots.now a.masks.now a.book.now) _ c.cells-n.ensures c.if-n-eq0.false a.seat a.v h p e _ (c.insert_blocked-no.ensures (point_of a.v) a.seat (omega (arith, h), c.seek-r.ensures _ (point_of a.v) c.path.ensures.0))
+    edit_done (inserting a.w (passed _ c.finite_word.ensures (ap not c.if-not-finite_word.false))) (mem_of a.slots.now a.masks.now a.book.now) _ c.cells-n.ensures c.if-n-eq0.false
+    a.seat a.v h p e _ (c.insert_blocked-no.ensures (point_of a.v) a.seat (omega (arith, h), c.seek-r.ensures _ (point_of a.v) c.path.ensures.0))
     (mem_of u.new.slots u.new.masks u.new.book) (record { slots = k.slots; masks = k.masks; book = k.book }) c.if-no-ne0.false u.ensures

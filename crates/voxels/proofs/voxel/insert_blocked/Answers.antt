@@ -26,4 +26,5 @@ pub returns : goal.returns
 returns c p i e =
     let a = c.args in
     let m = c.requires.0.most in
-    blocked_insert _ _ _ (ends_by a.slots.now a.masks.now a.book.now p m e c.if-r-eq0.false (c.active_at-active.ensures a.slots.now a.book.now)) _ _ _ (passed _ c.finite_word.ensures (ap not c.if-not-finite_word.false)) c.need_insert.ensures (c.afford.ensures _ _)
+    blocked_insert _ _ _ (ends_by a.slots.now a.masks.now a.book.now p m e c.if-r-eq0.false (c.active_at-active.ensures a.slots.now a.book.now)) _ _ _
+    (passed _ c.finite_word.ensures (ap not c.if-not-finite_word.false)) c.need_insert.ensures (c.afford.ensures _ _)

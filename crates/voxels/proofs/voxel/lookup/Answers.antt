@@ -31,4 +31,5 @@ pub returns : goal.returns
 returns c p e =
     let a = c.args in
     let h = c.if-seat-gt7.false in
-    lookup_says (mem_of a.slots.now a.masks.now a.book.now) _ c.cells-n.ensures c.if-n-eq0.false a.seat a.v p h e (c.shown.ensures _ (point_of a.v) a.seat (omega (arith, h), c.seek-r.ensures _ _ c.path.ensures.0))
+    lookup_says (mem_of a.slots.now a.masks.now a.book.now) _ c.cells-n.ensures c.if-n-eq0.false a.seat a.v p h e
+    (c.shown.ensures _ (point_of a.v) a.seat (omega (arith, h), c.seek-r.ensures _ _ c.path.ensures.0))

@@ -33,7 +33,8 @@ pub returns-then-no-ne0 : goal.returns-then-no-ne0
 returns-then-no-ne0 c p e =
     let a = c.args in
     let h = c.if-seat-gt7.false in
-    edit_blocked removing (mem_of a.slots.now a.masks.now a.book.now) _ c.cells-n.ensures c.if-n-eq0.false a.seat a.v h p e _ (c.remove_blocked-no.ensures (point_of a.v) a.seat (omega (arith, h), c.seek-r.ensures _ (point_of a.v) c.path.ensures.0)) c.if-no-ne0.true
+    edit_blocked removing (mem_of a.slots.now a.masks.now a.book.now) _ c.cells-n.ensures c.if-n-eq0.false a.seat a.v h p e _
+    (c.remove_blocked-no.ensures (point_of a.v) a.seat (omega (arith, h), c.seek-r.ensures _ (point_of a.v) c.path.ensures.0)) c.if-no-ne0.true
 
 pub remove_unmark-requires : goal.remove_unmark-requires
 remove_unmark-requires c =
@@ -48,5 +49,6 @@ returns c p e =
     let h = c.if-seat-gt7.false in
     let u = c.remove_unmark in
     let k = u.auto in
-    edit_done removing (mem_of a.slots.now a.masks.now a.book.now) _ c.cells-n.ensures c.if-n-eq0.false a.seat a.v h p e _ (c.remove_blocked-no.ensures (point_of a.v) a.seat (omega (arith, h), c.seek-r.ensures _ (point_of a.v) c.path.ensures.0))
+    edit_done removing (mem_of a.slots.now a.masks.now a.book.now) _ c.cells-n.ensures c.if-n-eq0.false a.seat a.v h p e _
+    (c.remove_blocked-no.ensures (point_of a.v) a.seat (omega (arith, h), c.seek-r.ensures _ (point_of a.v) c.path.ensures.0))
     (mem_of u.new.slots u.new.masks u.new.book) (record { slots = k.slots; masks = k.masks; book = k.book }) c.if-no-ne0.false u.ensures

@@ -26,9 +26,11 @@ pub returns-then-r-eq1 : goal.returns-then-r-eq1
 returns-then-r-eq1 c p i e =
     let a = c.args in
     let d = ends_any a.slots.now a.masks.now a.book.now p c.requires.0.most e c.if-r-eq0.false in
-    blocked_remove _ _ d.0 d.1 _ _ (passed _ c.finite_word.ensures (ap not c.if-not-finite_word.false)) (let h = c.if-r-eq1.true in need_low_remove (a.r / 0x100_0000) d.0 (omega (arith, h))) (afford_none _ _ _ _ 0 refl)
+    blocked_remove _ _ d.0 d.1 _ _ (passed _ c.finite_word.ensures (ap not c.if-not-finite_word.false)) (let h = c.if-r-eq1.true in need_low_remove (a.r / 0x100_0000) d.0 (omega (arith, h)))
+    (afford_none _ _ _ _ 0 refl)
 
 pub returns : goal.returns
 returns c p i e =
     let a = c.args in
-    blocked_remove _ _ _ (ends_by a.slots.now a.masks.now a.book.now p c.requires.0.most e c.if-r-eq0.false (c.active_at-active.ensures a.slots.now a.book.now)) _ _ (passed _ c.finite_word.ensures (ap not c.if-not-finite_word.false)) c.need_remove.ensures (c.afford.ensures _ _)
+    blocked_remove _ _ _ (ends_by a.slots.now a.masks.now a.book.now p c.requires.0.most e c.if-r-eq0.false (c.active_at-active.ensures a.slots.now a.book.now)) _ _
+    (passed _ c.finite_word.ensures (ap not c.if-not-finite_word.false)) c.need_remove.ensures (c.afford.ensures _ _)

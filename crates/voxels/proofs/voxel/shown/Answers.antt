@@ -21,10 +21,12 @@ pub returns-then-active_at : goal.returns-then-active_at
 returns-then-active_at c book p i e =
     let a = c.args in
     let m = c.requires.0.most in
-    shown_value _ _ _ (ends_by a.slots.now a.masks.now book p m e c.if-r-eq0.false (c.active_at.ensures a.slots.now book)) (passed _ c.finite_word.ensures (ap not c.if-not-finite_word.false)) c.if-active_at.true c.float_of.ensures
+    shown_value _ _ _ (ends_by a.slots.now a.masks.now book p m e c.if-r-eq0.false (c.active_at.ensures a.slots.now book))
+    (passed _ c.finite_word.ensures (ap not c.if-not-finite_word.false)) c.if-active_at.true c.float_of.ensures
 
 pub returns : goal.returns
 returns c book p i e =
     let a = c.args in
     let m = c.requires.0.most in
-    shown_nothing _ _ _ (ends_by a.slots.now a.masks.now book p m e c.if-r-eq0.false (c.active_at.ensures a.slots.now book)) (passed _ c.finite_word.ensures (ap not c.if-not-finite_word.false)) c.if-active_at.false
+    shown_nothing _ _ _ (ends_by a.slots.now a.masks.now book p m e c.if-r-eq0.false (c.active_at.ensures a.slots.now book))
+    (passed _ c.finite_word.ensures (ap not c.if-not-finite_word.false)) c.if-active_at.false
