@@ -3,10 +3,9 @@ use mathlib.Core.Path.{◌≡◌, refl, sym, ap, ap₂, ◌∙◌, subst}
 use mathlib.Core.Logic.{inl, inr}
 use mathlib.Core.List.{List}
 use mathlib.Core.Bool.{Bool, true, false, not, ◌&&◌, xor, beq, not-not, and-true, and-false, and_comm}
-use Prim.Native.Nat.{ℕ, zero, suc, ◌+◌, ◌-◌, ◌*◌, ◌/◌, ◌≤◌, ◌<◌, ◌^◌}
-use native.Mathlib.Nat.{not-suc-le-zero, le_of_suc-le-suc, lt_of_le_of_lt, le_antisymm}
+use Prim.Native.Nat.{ℕ, zero, suc, ◌+◌, ◌-◌, ◌*◌, ◌≤◌, ◌<◌, ◌^◌}
+use native.Mathlib.Nat.{not-suc-le-zero, le_of_suc-le-suc, lt_of_le_of_lt}
 use native.Mathlib.Omega.{arith}
-use native.Mathlib.Numerals.{add-one}
 use lib.Dec.{T, eqb, ltb, lit<}
 use lib.Bits.{bit_and, bit_or, and_le_l, and_le_r, or_add_and}
 use lib.Arith.{lt_of_le-ne}
@@ -14,7 +13,7 @@ use borrow.Author.Tests.{eq-eqb, eqb-true, lt-ltb, le-ltb, not-true}
 use Rattle.bitset.specs.Set.{Sized, word_bit, bit_of, every, same, full}
 use Rattle.bitset.proofs.Digits.{lt_or_le, is_or_not}
 use Rattle.bitset.proofs.Words.{and_acts, word_ext, zero_bit}
-use Rattle.bitset.proofs.Sets.{Has, has_bit, has_both}
+use Rattle.bitset.proofs.Sets.{Has, has_both}
 
 -- ---- Bool
 pub both_ways : (a b : Bool) → (a ≡ true → b ≡ true) → (b ≡ true → a ≡ true) → a ≡ b
@@ -54,16 +53,8 @@ every_alike p q n h =
     (λ e. every_intro q n (λ k l. sym (h k l) ∙ every_elim p n e k l))
     (λ e. every_intro p n (λ k l. h k l ∙ every_elim q n e k l))
 
--- ---- a loop that gathers words by or, up to the last, L: the word so far, v, is 0 where the last word, z, is, and each of the words d that it has passed
-pub record Gathered (d : ℕ → ℕ) (L z v i : ℕ) : Type 0 where
-  pub within : i ≤ L
-  pub tests : eqb v 0 ≡ eqb z 0 && every (λ q. eqb (d q) 0) i
-
-pub gather_none : (d : ℕ → ℕ) (L z : ℕ) → Gathered d L z z 0
-unfolding every
-gather_none d L z = record { within = omega arith; tests = sym (and-true (eqb z 0)) }
-
-or_test : (a b : ℕ) → eqb (bit_or a b) 0 ≡ eqb a 0 && eqb b 0
+-- ---- words gathered by or: all of them are 0 where one is
+pub or_test : (a b : ℕ) → eqb (bit_or a b) 0 ≡ eqb a 0 && eqb b 0
 or_test a b =
     let s : bit_or a b + bit_and a b ≡ a + b = or_add_and a b in
     let l : bit_and a b ≤ a = and_le_l a b in
@@ -72,64 +63,76 @@ or_test a b =
     (λ t. let o : bit_or a b ≡ 0 = eqb-true (bit_or a b) 0 t in ap₂ (λ (x y : Bool). x && y) (eq-eqb a 0 (omega arith)) (eq-eqb b 0 (omega arith)))
     (λ t. let h = and_both (eqb a 0) (eqb b 0) t in eq-eqb (bit_or a b) 0 (ap₂ bit_or (eqb-true a 0 h.0) (eqb-true b 0 h.1)))
 
-pub gather_more : {d : ℕ → ℕ} {L z v i : ℕ} → Gathered d L z v i → i < L → Gathered d L z (bit_or v (d i)) (i + 1)
+-- the numbers below n that g does not give
+abbrev pub none : (ℕ → Bool) → ℕ → Bool
+none g = every (λ k. not (g k))
+
+-- the word w has, of the bits that g gives, those that are among the first m at its place, q: it is 0 where there are none
+module _ (g : ℕ → Bool) (q m : ℕ) {w : ℕ} (few : m ≤ 64) (fits : w < 2 ^ 64) (has : Has (λ k. g k && ltb k (64 * q + m)) q w) where
+  off_here : w ≡ 0 → (k : ℕ) → 64 * q ≤ k → k < 64 * q + m → not (g k) ≡ true
+  off_here z k b l =
+      let e : 64 * q + (k - 64 * q) ≡ k = omega arith in
+      ap not (only (g k) (ltb k (64 * q + m)) (lt-ltb k (64 * q + m) l)
+      (ap (λ (k : ℕ). g k && ltb k (64 * q + m)) (sym e) ∙ sym (has (k - 64 * q) (omega arith)) ∙ ap (λ (w : ℕ). word_bit w (k - 64 * q)) z ∙ zero_bit (k - 64 * q)))
+    where
+      only : (a b : Bool) → b ≡ true → a && b ≡ false → a ≡ false
+      only true b e f = sym e ∙ f
+      only false b e f = refl
+
+  zero_here : none g (64 * q + m) ≡ true → w ≡ 0
+  zero_here e = word_ext w 0 fits (lit< tt) (λ r l. has r l ∙ off (64 * q + r) ∙ sym (zero_bit r))
+    where
+      off : (k : ℕ) → g k && ltb k (64 * q + m) ≡ false
+      off k = elim (lt_or_le k (64 * q + m)) [
+        | inl l ↦ ap (λ (b : Bool). b && ltb k (64 * q + m)) (not-true (g k) (every_elim (λ k. not (g k)) (64 * q + m) e k l))
+        | inr l ↦ ap (λ (b : Bool). g k && b) (le-ltb k (64 * q + m) l) ∙ and-false (g k)
+      ]
+
+  none_more : none g (64 * q) && eqb w 0 ≡ none g (64 * q + m)
+  none_more =
+      both_ways (none g (64 * q) && eqb w 0) (none g (64 * q + m))
+      (λ e.
+      let h = and_both (none g (64 * q)) (eqb w 0) e in
+      every_intro (λ k. not (g k)) (64 * q + m) (λ k l. elim (lt_or_le k (64 * q)) [
+        | inl b ↦ every_elim (λ k. not (g k)) (64 * q) h.0 k b
+        | inr b ↦ off_here (eqb-true w 0 h.1) k b l
+      ]))
+      (λ e.
+      ap₂ (λ (a b : Bool). a && b)
+      (every_intro (λ k. not (g k)) (64 * q) (λ k l. every_elim (λ k. not (g k)) (64 * q + m) e k (omega arith)))
+      (eq-eqb w 0 (zero_here e)))
+
+-- ---- a loop that gathers words by or: the word so far, v, is 0 where that of the last word, z, is, and no bit of the words before q is on
+pub record Gathered (g : ℕ → Bool) (z v q : ℕ) : Type 0 where
+  pub tests : eqb v 0 ≡ none g (64 * q) && eqb z 0
+
+pub gather_none : (g : ℕ → Bool) (z : ℕ) → Gathered g z z 0
 unfolding every
-gather_more {d} {L} {z} {v} {i} g l =
-    record {
-      within = omega arith;
-      tests =
-          or_test v (d i) ∙ ap (λ (b : Bool). b && eqb (d i) 0) g.tests ∙ swap (eqb z 0) (every (λ q. eqb (d q) 0) i) (eqb (d i) 0)
-          ∙ ap (λ (n : ℕ). eqb z 0 && every (λ q. eqb (d q) 0) n) (sym (add-one i));
-    }
-  where
-    swap : (z a b : Bool) → (z && a) && b ≡ z && (b && a)
-    swap false a b = refl
-    swap true a b = and_comm a b
+gather_none g z = record { tests = refl }
 
--- ---- the words d before word L, and z there below n, have the bits at which x fails the set: they are all 0 where it fails at none
-module _ (x : ℕ → Bool) (d : ℕ → ℕ) (z L n : ℕ) (first : 64 * L ≤ n) (last : n ≤ 64 * (L + 1)) where
-  module _ (hd : (q : ℕ) → q < L → Has x q (d q)) (hz : Has (λ k. x k && ltb k n) L z) where
-    none_if : z ≡ 0 → ((q : ℕ) → q < L → d q ≡ 0) → (k : ℕ) → k < n → not (x k) ≡ true
-    none_if ez ed k h = elim (lt_or_le (k / 64) L) [
-      | inl l ↦ ap not (sym (has_bit x (d (k / 64)) k (hd (k / 64) l)) ∙ ap (λ (w : ℕ). word_bit w k) (ed (k / 64) l) ∙ zero_bit k)
-      | inr l ↦
-          let e : L ≡ k / 64 = omega arith in
-          ap not (only (x k) (ltb k n) (lt-ltb k n h) (sym (has_bit (λ k. x k && ltb k n) z k (subst (λ (q : ℕ). Has (λ k. x k && ltb k n) q z) e hz)) ∙ ap (λ (w : ℕ). word_bit w k) ez ∙ zero_bit k))
-    ]
-      where
-        only : (a b : Bool) → b ≡ true → a && b ≡ false → a ≡ false
-        only true b e f = sym e ∙ f
-        only false b e f = refl
+module _ (g : ℕ → Bool) (q : ℕ) {z v w : ℕ} (e : Gathered g z v q) (fits : w < 2 ^ 64) (has : Has g q w) where
+  pub gather_more : Gathered g z (bit_or v w) (q + 1)
+  gather_more = record {
+    tests =
+        or_test v w ∙ ap (λ (b : Bool). b && eqb w 0) e.tests ∙ swap (none g (64 * q)) (eqb z 0) (eqb w 0)
+        ∙ ap (λ (b : Bool). b && eqb z 0) (none_more g q 64 (omega arith) fits here ∙ ap (none g) (omega arith));
+  }
+    where
+      here : Has (λ k. g k && ltb k (64 * q + 64)) q w
+      here r l = has r l ∙ sym (ap (λ (b : Bool). g (64 * q + r) && b) (lt-ltb (64 * q + r) (64 * q + 64) (omega arith)) ∙ and-true (g (64 * q + r)))
 
-    word_none : (q w : ℕ) (g : ℕ → Bool) → w < 2 ^ 64 → Has g q w → ((r : ℕ) → r < 64 → g (64 * q + r) ≡ false) → w ≡ 0
-    word_none q w g l h e = word_ext w 0 l (lit< tt) (λ r m. h r m ∙ e r m ∙ sym (zero_bit r))
+      swap : (a b c : Bool) → (a && b) && c ≡ (a && c) && b
+      swap true b c = and_comm b c
+      swap false b c = refl
 
-    pub none : ((q : ℕ) → d q < 2 ^ 64) → z < 2 ^ 64 → eqb z 0 && every (λ q. eqb (d q) 0) L ≡ every (λ k. not (x k)) n
-    none ld lz =
-        both_ways (eqb z 0 && every (λ q. eqb (d q) 0) L) (every (λ k. not (x k)) n)
-        (λ e.
-        let h = and_both (eqb z 0) (every (λ q. eqb (d q) 0) L) e in
-        every_intro (λ k. not (x k)) n (none_if (eqb-true z 0 h.0) (λ q l. eqb-true (d q) 0 (every_elim (λ q. eqb (d q) 0) L h.1 q l))))
-        (λ e.
-        let off : (k : ℕ) → k < n → x k ≡ false = λ k l. not-true (x k) (every_elim (λ k. not (x k)) n e k l) in
-        ap₂ (λ (a b : Bool). a && b)
-        (eq-eqb z 0 (word_none L z (λ k. x k && ltb k n) lz hz (λ r l. outside (64 * L + r) off)))
-        (every_intro (λ q. eqb (d q) 0) L (λ q l. eq-eqb (d q) 0 (word_none q (d q) x (ld q) (hd q l) (λ r m. off (64 * q + r) (omega arith))))))
-      where
-        outside : (k : ℕ) → ((k : ℕ) → k < n → x k ≡ false) → x k && ltb k n ≡ false
-        outside k off = elim (lt_or_le k n) [
-          | inl l ↦ ap (λ (b : Bool). b && ltb k n) (off k l)
-          | inr l ↦ ap (λ (b : Bool). x k && b) (le-ltb k n l) ∙ and-false (x k)
-        ]
-
--- ---- what the loops answer: the words d have the bits x, and of the last, word M - 1, those that the mask m keeps
-module _ (x : ℕ → Bool) (d : ℕ → ℕ) (own : (q : ℕ) → Has x q (d q)) (fits : (q : ℕ) → d q < 2 ^ 64) where
-  pub gathered_is : {M n v i : ℕ} → Sized M n → (m : ℕ) → Has (λ k. ltb k n) (M - 1) m → Gathered d (M - 1) (bit_and (d (M - 1)) m) v i → M - 1 ≤ i → eqb v 0 ≡ every (λ k. not (x k)) n
-  gathered_is {M} {n} {v} {i} z m mask g l =
-      let L = M - 1 in
-      let at_end : i ≡ L = le_antisymm g.within l in
-      g.tests ∙ ap (λ (i : ℕ). eqb (bit_and (d L) m) 0 && every (λ q. eqb (d q) 0) i) at_end
-      ∙ none x d (bit_and (d L) m) L n (omega arith) (omega arith) (λ q l. own q) (has_both and_acts x (λ k. ltb k n) L (d L) m (own L) mask) fits (lt_of_le_of_lt (and_le_l (d L) m) (fits L))
+-- z is what the mask m keeps of the last word, w
+pub gather_all : (g : ℕ → Bool) {M n w v : ℕ} (m : ℕ) → Sized M n → Has (λ k. ltb k n) (M - 1) m → w < 2 ^ 64 → Has g (M - 1) w → Gathered g (bit_and w m) v (M - 1) → eqb v 0 ≡ none g n
+gather_all g {M} {n} {w} {v} m z mask fits has e =
+    let L = M - 1 in
+    let d : 64 * L + (n - 64 * L) ≡ n = omega (arith, z.enough, z.last, z.some) in
+    e.tests ∙ none_more g L (n - 64 * L) (omega (arith, z.enough)) (lt_of_le_of_lt (and_le_l w m) fits)
+    (subst (λ (i : ℕ). Has (λ k. g k && ltb k i) L (bit_and w m)) (sym d) (has_both and_acts g (λ k. ltb k n) L w m has mask))
+    ∙ ap (none g) d
 
 -- "full" gathers the words' complements, and "same" the bits in which two words differ
 pub full_by : (ws : List ℕ) (n : ℕ) → every (λ k. not (not (bit_of ws k))) n ≡ full ws n

@@ -2,27 +2,23 @@
 use mathlib.Core.Path.{◌≡◌, refl, sym, ap, ◌∙◌, subst}
 use mathlib.Core.Logic.{inl, inr}
 use mathlib.Core.List.{List}
-use mathlib.Core.Bool.{Bool, true, false, not, ◌&&◌, and-true, false≢true}
+use mathlib.Core.Bool.{Bool, false, not, ◌&&◌, and-true, false≢true}
 use Prim.Native.Nat.{ℕ, suc, ◌+◌, ◌-◌, ◌*◌, ◌/◌, ◌%◌, ◌^◌, ◌≤◌, ◌<◌}
 use native.Mathlib.Nat.{div-eq_of_lt-le, lt_of_lt_of_le, pow-suc}
 use native.Mathlib.Omega.{arith}
 use lib.Dec.{eqb}
 use lib.ListN.{get_or}
-use lib.Bits.{bit_and, and_le_l}
+use lib.Bits.{and_le_l}
 use lib.Arith.{lt_of_le-ne}
 use lib.Pow.{pow_mono}
 use lib.Count.{count_leading_zeros, leading_top}
 use borrow.Author.Tests.{eq-eqb, ne_eqb}
 use Rattle.bitset.specs.Set.{weight, word_bit, bit_of}
+pub use Rattle.bitset.specs.On.{Leads, less}
+use Rattle.bitset.specs.declared.OnBits.{OnBits}
 use Rattle.bitset.proofs.Digits.{lt_or_le, digit, digit_above}
 use Rattle.bitset.proofs.Words.{ones, bit_rem, bit_digit, zero_bit, and_acts, not_bit, weight_lt, weight_bit}
 use Rattle.bitset.proofs.Sets.{bit_is}
-
--- z is the place of the first bit of w that is on
-pub record Leads (w z : ℕ) : Type 0 where
-  pub within : z < 64
-  pub on : word_bit w z ≡ true
-  pub before : (r : ℕ) → r < z → word_bit w r ≡ false
 
 pub leads : (w : ℕ) → (w ≡ 0 → ⊥) → w < 2 ^ 64 → Leads w (count_leading_zeros 64 w)
 leads w ne h =
@@ -50,10 +46,7 @@ leads w ne h =
     under : (r z j : ℕ) → r < z → z + suc j ≡ 64 → suc j ≤ 63 - r
     under r z j l e = omega arith
 
--- the word w without bit i: where that bit was on, a lesser one
-abbrev pub less : ℕ → ℕ → ℕ
-less w i = bit_and w (ones - weight i)
-
+-- the word w without bit i
 pub less_bit : (w i k : ℕ) → word_bit (less w i) k ≡ word_bit w k && not (eqb (k % 64) (i % 64))
 less_bit w i k = and_acts.by_bits w (ones - weight i) k ∙ ap (λ (t : Bool). word_bit w k && t) (not_bit (weight i) k (weight_lt i) ∙ ap not (weight_bit i k))
 
@@ -61,6 +54,7 @@ module _ {w i : ℕ} (d : Leads w i) where
   pub less_off : word_bit (less w i) i ≡ false
   less_off = less_bit w i i ∙ rw (eq-eqb (i % 64) (i % 64) refl, d.on) refl
 
+  -- it is a lesser one
   pub less_lt : less w i < w
   less_lt = lt_of_le-ne (and_le_l w (ones - weight i)) (λ e. false≢true (sym less_off ∙ ap (λ (v : ℕ). word_bit v i) e ∙ d.on))
 
@@ -69,8 +63,12 @@ module _ {w i : ℕ} (d : Leads w i) where
   less_other k h p =
       less_bit w i k ∙ ap (λ (t : Bool). word_bit w k && not t) (ne_eqb (k % 64) (i % 64) (λ o. p (omega (arith, o, h, d.within)))) ∙ and-true (word_bit w k)
 
+-- a loop over the bits that are on begins with the whole word
+pub begins : {s t : OnBits} {w : ℕ} → s ≡ t → t.rest ≡ w → s.rest ≡ w
+begins e f = ap (λ (s : OnBits). s.rest) e ∙ f
+
 -- the words before i are 0, and so are the first z bits of word i
-pub none_before : (ws : List ℕ) (i z : ℕ) → z ≤ 64 → ((p : ℕ) → p < i → get_or ws p 0 ≡ 0) → ((r : ℕ) → r < z → word_bit (get_or ws i 0) r ≡ false) → (j : ℕ) → j < i * 64 + z → bit_of ws j ≡ false
+pub none_before : (ws : List ℕ) (i z : ℕ) → z ≤ 64 → ((p : ℕ) → p < i → get_or ws p 0 ≡ 0) → ((r : ℕ) → r < z → word_bit (get_or ws i 0) r ≡ false) → (j : ℕ) → j < 64 * i + z → bit_of ws j ≡ false
 none_before ws i z h before here j l =
     bit_is ws j ∙ elim (lt_or_le (j / 64) i) [
       | inl q ↦ ap (λ (w : ℕ). word_bit w j) (before (j / 64) q) ∙ zero_bit j

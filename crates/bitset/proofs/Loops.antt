@@ -3,7 +3,7 @@
 use mathlib.Core.Path.{◌≡◌, refl, sym, ap, ap₂, ◌∙◌, subst}
 use mathlib.Core.Logic.{inl, inr}
 use mathlib.Core.List.{List}
-use mathlib.Core.Bool.{Bool, false, ◌&&◌, xor}
+use mathlib.Core.Bool.{Bool, false, ◌&&◌}
 use Prim.Native.Nat.{ℕ, ◌+◌, ◌-◌, ◌*◌, ◌/◌, ◌≤◌, ◌<◌}
 use native.Mathlib.Nat.{le_refl, ne_of_lt, ne_of_gt, not-le_of_lt, eq-or-lt_of_le}
 use native.Mathlib.Omega.{arith}
@@ -12,12 +12,10 @@ use lib.ListN.{length, get_or, set, length-set}
 use lib.Seq.{get_or-set_same, get_or-set_other}
 use borrow.Author.Count.{below_none, below_more}
 use borrow.Author.Tests.{lt-ltb, le-ltb}
-use Rattle.bitset.specs.Set.{word_bit, bit_of}
-use Rattle.bitset.specs.Bits.{on_bits}
-use Rattle.bitset.specs.declared.Operation.{Operation}
-use Rattle.bitset.specs.declared.Operation.TheVariants.{And, Or, Xor}
+use Rattle.bitset.specs.Set.{bit_of}
 use Rattle.bitset.proofs.Digits.{lt_or_le}
-use Rattle.bitset.proofs.Sets.{Has, has_bit, has_own, bit_is, bit_past, bit_same}
+use Rattle.bitset.proofs.Words.{Acts}
+use Rattle.bitset.proofs.Sets.{Has, has_bit, has_both, has_own, bit_is, bit_past, bit_same}
 
 -- every word is written: the bits are those of g, and there are none past the end
 pub all_written : (g : ℕ → Bool) (s₀ s : List ℕ) → length s ≡ length s₀ → ((p : ℕ) → p < length s₀ → Has g p (get_or s p 0)) → (k : ℕ) → bit_of s k ≡ ltb k (64 * length s₀) && g k
@@ -25,6 +23,22 @@ all_written g s₀ s e done k = elim (lt_or_le k (64 * length s₀)) [
   | inl h ↦ bit_is s k ∙ has_bit g (get_or s (k / 64) 0) k (done (k / 64) (omega arith)) ∙ sym (ap (λ (b : Bool). b && g k) (lt-ltb k (64 * length s₀) h))
   | inr h ↦ bit_past s k (omega arith) ∙ sym (ap (λ (b : Bool). b && g k) (le-ltb k (64 * length s₀) h))
 ]
+
+-- the same where g itself gives none past the end
+pub all_given : (g : ℕ → Bool) (s₀ s : List ℕ) → length s ≡ length s₀ → ((p : ℕ) → p < length s₀ → Has g p (get_or s p 0)) → ((k : ℕ) → 64 * length s₀ ≤ k → g k ≡ false)
+    → (k : ℕ) → bit_of s k ≡ g k
+all_given g s₀ s e done z k = all_written g s₀ s e done k ∙ elim (lt_or_le k (64 * length s₀)) [
+  | inl l ↦ ap (λ (b : Bool). b && g k) (lt-ltb k (64 * length s₀) l)
+  | inr l ↦ ap (λ (b : Bool). b && g k) (le-ltb k (64 * length s₀) l) ∙ sym (z k l)
+]
+
+-- each word is what an operation makes of those of the sets a and b, of as many words
+pub made : {op : ℕ → ℕ → ℕ} {f : Bool → Bool → Bool} → Acts op f → f false false ≡ false → (a b s : List ℕ) → length a ≡ length s → length b ≡ length s
+    → ((p : ℕ) → p < length s → get_or s p 0 ≡ op (get_or a p 0) (get_or b p 0)) → (k : ℕ) → bit_of s k ≡ f (bit_of a k) (bit_of b k)
+made {op} {f} acts none a b s ea eb each =
+    all_given (λ k. f (bit_of a k) (bit_of b k)) s s refl
+    (λ p l. subst (Has (λ k. f (bit_of a k) (bit_of b k)) p) (sym (each p l)) (has_both acts (bit_of a) (bit_of b) p (get_or a p 0) (get_or b p 0) (has_own a p) (has_own b p)))
+    (λ k l. ap₂ f (bit_past a k (omega arith)) (bit_past b k (omega arith)) ∙ none)
 
 -- ---- from the front
 pub record Front (g : ℕ → Bool) (s₀ s : List ℕ) (i : ℕ) : Type 0 where
@@ -48,41 +62,8 @@ module _ {g : ℕ → Bool} {s₀ s : List ℕ} {i : ℕ} (d : Front g s₀ s i)
   pub front_left : (k : ℕ) → 64 * i ≤ k → bit_of s k ≡ bit_of s₀ k
   front_left k h = bit_same s s₀ k (d.left (k / 64) (omega arith))
 
-  pub front_all : length s ≤ i → (k : ℕ) → bit_of s k ≡ ltb k (64 * length s₀) && g k
-  front_all h = all_written g s₀ s d.long (λ p l. let e : length s ≡ length s₀ = d.long in d.done p (omega arith))
-
-  -- the same where g itself is false past the end
-  pub front_whole : length s ≤ i → ((k : ℕ) → 64 * length s₀ ≤ k → g k ≡ false) → (k : ℕ) → bit_of s k ≡ g k
-  front_whole h z k = front_all h k ∙ elim (lt_or_le k (64 * length s₀)) [
-    | inl l ↦ ap (λ (b : Bool). b && g k) (lt-ltb k (64 * length s₀) l)
-    | inr l ↦ ap (λ (b : Bool). b && g k) (le-ltb k (64 * length s₀) l) ∙ sym (z k l)
-  ]
-
--- ---- an operation on two sets a and b, of as many words as the set that is written
-abbrev pub both : Operation → List ℕ → List ℕ → ℕ → Bool
-both op a b k = on_bits op (bit_of a k) (bit_of b k)
-
--- v has the bits that the operation makes of those of two words
-abbrev pub Made : Operation → ℕ → ℕ → ℕ → Type 0
-Made op w₁ w₂ v = (k : ℕ) → word_bit v k ≡ on_bits op (word_bit w₁ k) (word_bit w₂ k)
-
-none_of_none : (op : Operation) → on_bits op false false ≡ false
-unfolding xor
-none_of_none And = refl
-none_of_none Or = refl
-none_of_none Xor = refl
-
-module _ (op : Operation) (a b : List ℕ) {s₀ s : List ℕ} {i : ℕ} (d : Front (both op a b) s₀ s i) where
-  pub both_more : i < length s₀ → (v : ℕ) → Made op (get_or a i 0) (get_or b i 0) v → Front (both op a b) s₀ (set s i v) (i + 1)
-  both_more h v e = front_more d h v (λ r l. e r ∙ ap₂ (on_bits op) (has_own a i r l) (has_own b i r l))
-
-  pub both_all : length s ≤ i → length a ≡ length s₀ → length b ≡ length s₀ → (k : ℕ) → bit_of s k ≡ both op a b k
-  both_all h ea eb = front_whole d h (λ k l. ap₂ (on_bits op) (bit_past a k (omega arith)) (bit_past b k (omega arith)) ∙ none_of_none op)
-
--- where a itself is written, its word at i is still the one that it had
-pub assign_more : (op : Operation) (b : List ℕ) {a₀ a : List ℕ} {i : ℕ} (d : Front (both op a₀ b) a₀ a i) → i < length a₀ → (v : ℕ) → Made op (get_or a i 0) (get_or b i 0) v
-    → Front (both op a₀ b) a₀ (set a i v) (i + 1)
-assign_more op b {a₀} {a} {i} d h v e = both_more op a₀ b d h v (subst (λ (w : ℕ). Made op w (get_or b i 0) v) (d.left i (le_refl i)) e)
+  pub front_all : length s₀ ≤ i → ((k : ℕ) → 64 * length s₀ ≤ k → g k ≡ false) → (k : ℕ) → bit_of s k ≡ g k
+  front_all h z = all_given g s₀ s d.long (λ p l. d.done p (omega arith)) z
 
 -- ---- from the back
 pub record Back (g : ℕ → Bool) (s₀ s : List ℕ) (i : ℕ) : Type 0 where

@@ -11,6 +11,7 @@ use lib.Seq.{get_or-set_same, get_or-set_other}
 use lib.Bits.{bit_and, bit_or}
 use borrow.Author.Tests.{eq-eqb, ne_eqb, lt-ltb}
 use Rattle.bitset.specs.Set.{weight, word_bit, bit_of}
+pub use Rattle.bitset.specs.Set.{Has}
 use Rattle.bitset.proofs.Digits.{lt_or_le, is_or_not}
 use Rattle.bitset.proofs.Words.{ones, Acts, and_acts, or_acts, not_bit, zero_bit, bit_rem, weight_bit, weight_lt}
 
@@ -28,10 +29,7 @@ bit_past ws k h =
 pub bit_same : (ws vs : List ℕ) (k : ℕ) → get_or ws (k / 64) 0 ≡ get_or vs (k / 64) 0 → bit_of ws k ≡ bit_of vs k
 bit_same ws vs k e = bit_is ws k ∙ ap (λ (w : ℕ). word_bit w k) e ∙ sym (bit_is vs k)
 
--- ---- the word w has, at the place of word q, the bits that g gives
-abbrev pub Has : (ℕ → Bool) → ℕ → ℕ → Type 0
-Has g q w = (r : ℕ) → r < 64 → word_bit w r ≡ g (64 * q + r)
-
+-- ---- the bits that a word has at its place
 -- a bit of the word by the bit's number in the set
 pub has_bit : (g : ℕ → Bool) (w k : ℕ) → Has g (k / 64) w → word_bit w k ≡ g k
 has_bit g w k h =
@@ -122,12 +120,3 @@ set_trim ws q v n e l has k =
       | inr h ↦ let p : bit_of ws k ≡ false = bit_past ws k (omega arith) in ap (λ (b : Bool). b && ltb k n) p ∙ sym p
     ]) k
     ∙ and_comm (bit_of ws k) (ltb k n)
-
--- ---- on and off, as one store of a bit
-pub on_set : (t b v : Bool) → v ≡ true → t || b ≡ cond t v b
-on_set true b v e = sym e
-on_set false b v e = refl
-
-pub off_set : (t b v : Bool) → v ≡ false → not t && b ≡ cond t v b
-off_set true b v e = sym e
-off_set false b v e = refl

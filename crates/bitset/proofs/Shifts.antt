@@ -3,16 +3,16 @@ use mathlib.Core.Path.{◌≡◌, sym, ap, ap₂, ◌∙◌}
 use mathlib.Core.Logic.{inl, inr}
 use mathlib.Core.List.{List}
 use mathlib.Core.Bool.{Bool, ◌&&◌, ◌||◌, or-false}
-use Prim.Native.Nat.{ℕ, ◌+◌, ◌-◌, ◌*◌, ◌/◌, ◌%◌, ◌^◌, ◌≤◌, ◌<◌}
+use Prim.Native.Nat.{ℕ, ◌+◌, ◌-◌, ◌*◌, ◌/◌, ◌%◌, ◌^◌, ◌<◌}
 use native.Mathlib.Omega.{arith}
 use lib.Dec.{ltb}
 use lib.ListN.{get_or}
 use lib.Pow.{shr-shr}
 use lib.Bits.{bit_or}
-use borrow.Author.Tests.{eq-eqb, ne_eqb, le-leb, lt-leb, lt-ltb, le-ltb}
-use Rattle.bitset.specs.Set.{Sized, word_bit, bit_of, up, down}
+use borrow.Author.Tests.{le-leb, lt-leb, lt-ltb, le-ltb}
+use Rattle.bitset.specs.Set.{Sized, word_bit, bit_of, up}
 use Rattle.bitset.proofs.Digits.{lt_or_le}
-use Rattle.bitset.proofs.Words.{ones, or_acts, zero_bit, ones_bit, shl_bit, shl_bit_out, shr_bit, shr_bit_out}
+use Rattle.bitset.proofs.Words.{ones, or_acts, ones_bit, shl_bit, shl_bit_out, shr_bit, shr_bit_out}
 use Rattle.bitset.proofs.Sets.{Has, has_own}
 
 -- ---- the 64 bits from bit p on, of two words of the set
@@ -38,12 +38,6 @@ window_bits ws p l r h =
 
 -- ---- word q of the set moved up by s
 module _ (ws : List ℕ) (q s : ℕ) where
-  -- it has no bit of a word before the set's first
-  pub moved_whole : (v : ℕ) → s ≤ 64 * q → ((r : ℕ) → r < 64 → word_bit v r ≡ bit_of ws (64 * q - s + r)) → Has (up ws s) q v
-  moved_whole v l h r m =
-      let e : 64 * q - s + r ≡ 64 * q + r - s = omega arith in
-      h r m ∙ ap (bit_of ws) e ∙ sym (ap (λ (b : Bool). b && bit_of ws (64 * q + r - s)) (le-leb s (64 * q + r) (omega arith)))
-
   -- it starts before the set's first word, and ends in it
   pub moved_part : 64 * q < s → s < 64 * q + 64 → get_or ws 0 0 < 2 ^ 64 → Has (up ws s) q (get_or ws 0 0 / 2 ^ (s - 64 * q))
   moved_part a b l r h = elim (lt_or_le r (s - 64 * q)) [
@@ -53,19 +47,6 @@ module _ (ws : List ℕ) (q s : ℕ) where
         shr_bit (get_or ws 0 0) (s - 64 * q) r h k ∙ has_own ws 0 (r - (s - 64 * q)) (omega arith) ∙ ap (bit_of ws) e
         ∙ sym (ap (λ (t : Bool). t && bit_of ws (64 * q + r - s)) (le-leb s (64 * q + r) (omega arith)))
   ]
-
-  -- it lies before the set
-  pub moved_none : 64 * q + 64 ≤ s → Has (up ws s) q 0
-  moved_none l r h = zero_bit r ∙ sym (ap (λ (t : Bool). t && bit_of ws (64 * q + r - s)) (lt-leb s (64 * q + r) (omega arith)))
-
--- ---- the set moved down by s, whose bits from n on were turned off before where s is not 0
-pub down_none : (ws : List ℕ) (n s : ℕ) → s ≡ 0 → (k : ℕ) → bit_of ws k ≡ down ws n s k
-down_none ws n s e k =
-    let z : k ≡ k + s = omega arith in
-    ap (bit_of ws) z ∙ sym (ap (λ (b : Bool). (b || ltb (k + s) n) && bit_of ws (k + s)) (eq-eqb s 0 e))
-
-pub down_some : (ws : List ℕ) (n s : ℕ) → (s ≡ 0 → ⊥) → (k : ℕ) → ltb (k + s) n && bit_of ws (k + s) ≡ down ws n s k
-down_some ws n s ne k = sym (ap (λ (t : Bool). (t || ltb (k + s) n) && bit_of ws (k + s)) (ne_eqb s 0 ne))
 
 -- ---- the mask of the bits below n in the last of m words
 pub mask_has : (m n : ℕ) → Sized m n → Has (λ k. ltb k n) (m - 1) (ones * 2 ^ (64 * m - n) % 2 ^ 64)

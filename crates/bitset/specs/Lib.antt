@@ -1,4 +1,4 @@
 -- The definitions that the contracts of `bitset` cite.
 pub mod Set
 pub mod Answers
-pub mod Bits
+pub mod On

@@ -1,5 +1,5 @@
 -- A set of n bits, in words of 64. The words are numbers below 2 ^ 64, from the first to the last.
-use Rattle.std.specs.Prelude.{List, Bool, true, not, ◌&&◌, ◌||◌, ℕ, zero, suc, ◌+◌, ◌-◌, ◌*◌, ◌/◌, ◌%◌, ◌^◌, ◌≤◌, ◌<◌, length, get_or, eqb, leb, ltb}
+use Rattle.std.specs.Prelude.{◌≡◌, List, Bool, true, not, ◌&&◌, ◌||◌, ℕ, zero, suc, ◌+◌, ◌-◌, ◌*◌, ◌/◌, ◌%◌, ◌^◌, ◌≤◌, ◌<◌, length, get_or, eqb, leb, ltb}
 use Rattle.std.specs.Bool.{beq}
 
 -- "Sets of 8, 64 and 512 bits are served by one fact proved over the size": m words are just those that a set of n bits needs
@@ -24,6 +24,10 @@ word_bit w i = eqb (w / weight i % 2) 1
 -- the set has bit i; past the last word there is none
 unfoldable pub bit_of : List ℕ → ℕ → Bool
 bit_of ws i = word_bit (get_or ws (i / 64) 0) i
+
+-- the word w has, at the place of word q, the bits that g gives
+abbrev pub Has : (ℕ → Bool) → ℕ → ℕ → Type 0
+Has g q w = (r : ℕ) → r < 64 → word_bit w r ≡ g (64 * q + r)
 
 -- "the port moves bit n to n+s": bit k of the set after a shift to the right
 abbrev pub up : List ℕ → ℕ → ℕ → Bool

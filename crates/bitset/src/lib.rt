@@ -6,22 +6,20 @@
 // The source's `data` has no function here: the lent slice is the data.
 #![tactic(auto)]
 
-ghost use Rattle.std.specs.Prelude.{◌≡◌, true, false, cond, not, ◌&&◌, ◌||◌, ℕ, ◌+◌, ◌-◌, ◌*◌, ◌/◌, ◌<◌, ◌≤◌, length, get_or, eqb, leb, ltb};
+ghost use Rattle.std.specs.Prelude.{◌≡◌, true, false, cond, not, ◌&&◌, ◌||◌, ℕ, ◌+◌, ◌-◌, ◌*◌, ◌/◌, ◌<◌, ◌≤◌, length};
+ghost use Rattle.std.specs.Prelude.{get_or, eqb, leb, ltb, MatchOption, EachIndex, ◌≢◌, Bool};
 ghost use Rattle.std.specs.Bool.{xor};
 ghost use Rattle.std.specs.Int.Bits.{bit_and};
-ghost use Rattle.bitset.specs.Set.{Sized, Holds, weight, word_bit, bit_of, up, down, empty, full, same};
+ghost use Rattle.bitset.specs.Set.{Sized, Holds, weight, word_bit, bit_of, up, down, Has, every, empty, full, same};
 ghost use Rattle.bitset.specs.Answers.{FirstOn, WordAt};
-ghost use Rattle.bitset.specs.Bits.{on_bits};
+ghost use Rattle.bitset.specs.On.{TakesFirst};
+ghost use Rattle.std.specs.Iterator.{at_most};
 
 // Every word becomes value, so the unused bits are set too.
 pub fn with(ws: &mut [u64], value: u64)
     ensures { (k : ℕ) → bit_of ws.new k ≡ ltb k (64 * length ws.old) && word_bit value k }
 {
-    let mut i = 0;
-    while i < ws.len() {
-        ws[i] = value;
-        i += 1;
-    }
+    ws.fill(value);
 }
 
 // Every bit is turned off.
@@ -52,22 +50,15 @@ pub fn off_all(ws: &mut [u64])
     zeroes(ws);
 }
 
-// The answer of `word`.
-#[derive(Drop)]
-pub enum MaybeWord {
-    Is(u64),
-    Nothing,
-}
-
 // The word at offset, where all its bits are below n. Whole words below n are n / 64, so no offset is too large to ask for.
-pub fn word(ws: &[u64], n: usize, offset: usize) -> MaybeWord
+pub fn word(ws: &[u64], n: usize, offset: usize) -> Option<u64>
     requires { Holds ws.now n }
     ensures { WordAt ws.now n offset result }
 {
     if offset < n / 64 {
-        MaybeWord::Is(ws[offset])
+        Some(ws[offset])
     } else {
-        MaybeWord::Nothing
+        None
     }
 }
 
@@ -77,11 +68,11 @@ pub fn put_word(ws: &mut [u64], n: usize, offset: usize, value: u64) -> bool
     ensures there { result ≡ leb (64 * (offset + 1)) n }
     ensures stored { (k : ℕ) → bit_of ws.new k ≡ cond (result && eqb (k / 64) offset) (word_bit value k) (bit_of ws.old k) }
 {
-    if offset < n / 64 {
+    let there = offset < n / 64;
+    if there {
         ws[offset] = value;
-        return true;
     }
-    false
+    there
 }
 
 // How many bits of the last word are unused.
@@ -111,7 +102,37 @@ pub fn value_mask(i: usize) -> u64
 pub fn without(w: u64, i: usize) -> u64
     ensures { result ≡ bit_and w (0xffff_ffff_ffff_ffff - weight i) }
 {
-    w & !value_mask(i)
+    w & !(1 << (63 - i % 64))
+}
+
+// The bits of a word that are on, from the first: `rest` has those that are still to come.
+#[derive(Clone, Copy)]
+pub struct OnBits {
+    rest: u64,
+}
+
+// All bits of word that are on.
+pub fn on_in(word: u64) -> OnBits
+    ensures { result.rest ≡ word }
+{
+    OnBits { rest: word }
+}
+
+impl Iterator for OnBits {
+    type Item = usize;
+
+    ghost next_gives = { λ s r t. TakesFirst s.rest r t.rest };
+
+    ghost remaining = { λ s. at_most s.rest };
+
+    fn next(&mut self) -> Option<usize> {
+        if self.rest == 0 {
+            return None;
+        }
+        let i = u64::leading_zeros(self.rest) as usize;
+        self.rest = without(self.rest, i);
+        Some(i)
+    }
 }
 
 // Bit i, as the lowest bit of its word moved down.
@@ -146,9 +167,9 @@ pub fn set(ws: &mut [u64], i: usize, value: bool)
 {
     if value {
         on(ws, i);
-        return;
+    } else {
+        off(ws, i);
     }
-    off(ws, i);
 }
 
 // Bit i is turned on, with no branch on what it was.
@@ -156,7 +177,7 @@ pub fn on(ws: &mut [u64], i: usize)
     requires { i < 64 * length ws.old }
     ensures { (k : ℕ) → bit_of ws.new k ≡ eqb k i || bit_of ws.old k }
 {
-    ws[i / 64] = ws[i / 64] | value_mask(i);
+    ws[i / 64] |= value_mask(i);
 }
 
 // Bit i is turned off, with no branch on what it was.
@@ -164,35 +185,25 @@ pub fn off(ws: &mut [u64], i: usize)
     requires { i < 64 * length ws.old }
     ensures { (k : ℕ) → bit_of ws.new k ≡ not (eqb k i) && bit_of ws.old k }
 {
-    ws[i / 64] = ws[i / 64] & !value_mask(i);
+    ws[i / 64] &= !value_mask(i);
 }
 
-// The answer of `find_first_on`.
-#[derive(Drop)]
-pub enum Found {
-    At(usize),
-    Nothing,
+// The first word that is not 0.
+fn first_word(ws: &[u64]) -> Option<usize>
+    ensures { MatchOption result (EachIndex ws.now (λ q. get_or ws.now q 0 ≡ 0)) (λ i. (i < length ws.now) × (get_or ws.now i 0 ≢ 0) × ((q : ℕ) → q < i → get_or ws.now q 0 ≡ 0)) }
+{
+    ws.iter().position(|w| *w != 0)
 }
 
-// The first bit that is on. Where only unused bits are on the source answers with one of them, and this function with Nothing:
+// The first bit that is on. Where only unused bits are on the source answers with one of them, and this function with None:
 // it looks only below n.
-pub fn find_first_on(ws: &[u64], n: usize) -> Found
+pub fn find_first_on(ws: &[u64], n: usize) -> Option<usize>
     requires { Holds ws.now n }
     ensures { FirstOn ws.now n result }
 {
-    let mut i = 0;
-    while i < ws.len() {
-        let w = ws[i];
-        if w != 0 {
-            let k = i * 64 + u64::leading_zeros(w) as usize;
-            if k < n {
-                return Found::At(k);
-            }
-            return Found::Nothing;
-        }
-        i += 1;
-    }
-    Found::Nothing
+    let i = first_word(ws)?;
+    let k = 64 * i + u64::leading_zeros(ws[i]) as usize;
+    if k < n { Some(k) } else { None }
 }
 
 // The size of a set of n bits.
@@ -202,80 +213,52 @@ pub fn len(n: usize) -> usize
     n
 }
 
-// No bit below n is on. All words go into one, by or, so that there is one test and no branch on the way.
+// No bit below n is on in a set of so many words, each as `word` gives it. All go into one, by or, so that there is one test and no branch on the way.
+fn none_on<F: Fn(usize) -> u64>(words: usize, n: usize, word: F) -> bool
+    requires sized { Sized words n }
+    requires callable { (q : ℕ) → q < words → F.pre word q }
+    ensures { (g : ℕ → Bool) → ((q w : ℕ) → q < words → F.post word q w → Has g q w) → result ≡ every (λ k. not (g k)) n }
+{
+    let last = words - 1;
+    let mut joined = word(last) & unused_mask(words, n);
+    for q in 0..last {
+        joined |= word(q);
+    }
+    joined == 0
+}
+
+// No bit below n is on.
 pub fn is_empty(ws: &[u64], n: usize) -> bool
     requires { Holds ws.now n }
     ensures { result ≡ empty ws.now n }
 {
-    let last = ws.len() - 1;
-    let mut value = ws[last] & unused_mask(ws.len(), n);
-    let mut i = 0;
-    while i < last {
-        value = value | ws[i];
-        i += 1;
-    }
-    value == 0
+    none_on(ws.len(), n, |q| ws[q])
 }
 
-// Each bit below n is on. The bits that are off go into one word, by or.
+// Each bit below n is on: none is that is off.
 pub fn is_full(ws: &[u64], n: usize) -> bool
     requires { Holds ws.now n }
     ensures { result ≡ full ws.now n }
 {
-    let last = ws.len() - 1;
-    let mut value = !ws[last] & unused_mask(ws.len(), n);
-    let mut i = 0;
-    while i < last {
-        value = value | !ws[i];
-        i += 1;
-    }
-    value == 0
+    none_on(ws.len(), n, |q| !ws[q])
 }
 
-// The sets a and b have the same bits below n. The bits in which they differ go into one word, by or.
+// The sets a and b have the same bits below n: none in which they differ.
 pub fn eq(a: &[u64], b: &[u64], n: usize) -> bool
     requires holds { Holds a.now n }
     requires b_len { length b.now ≡ length a.now }
     ensures { result ≡ same a.now b.now n }
 {
-    let last = a.len() - 1;
-    let mut value = (a[last] ^ b[last]) & unused_mask(a.len(), n);
-    let mut i = 0;
-    while i < last {
-        value = value | (a[i] ^ b[i]);
-        i += 1;
-    }
-    value == 0
+    none_on(a.len(), n, |q| a[q] ^ b[q])
 }
 
-// An operation on two sets, bit by bit.
-#[derive(Clone, Copy)]
-enum Operation {
-    And,
-    Or,
-    Xor,
-}
-
-// The operation on two words.
-fn operate(op: Operation, v: u64, w: u64) -> u64
-    ensures { (k : ℕ) → word_bit result k ≡ on_bits op (word_bit v k) (word_bit w k) }
+// Each word becomes what `word` makes of its number and of what it was.
+fn each<F: Fn(usize, u64) -> u64>(ws: &mut [u64], word: F)
+    requires { (q v : ℕ) → q < length ws.old → F.pre word q v }
+    ensures { EachIndex ws.new (λ q. F.post word q (get_or ws.old q 0) (get_or ws.new q 0)) }
 {
-    match op {
-        Operation::And => v & w,
-        Operation::Or => v | w,
-        Operation::Xor => v ^ w,
-    }
-}
-
-// a becomes what the operation makes of a and b, which have as many words.
-fn assign(op: Operation, a: &mut [u64], b: &[u64])
-    requires { length b.now ≡ length a.old }
-    ensures { (k : ℕ) → bit_of a.new k ≡ on_bits op (bit_of a.old k) (bit_of b.now k) }
-{
-    let mut i = 0;
-    while i < a.len() {
-        a[i] = operate(op, a[i], b[i]);
-        i += 1;
+    for (q, w) in ws.iter_mut().enumerate() {
+        *w = word(q, *w);
     }
 }
 
@@ -284,7 +267,7 @@ pub fn and_assign(a: &mut [u64], b: &[u64])
     requires { length b.now ≡ length a.old }
     ensures { (k : ℕ) → bit_of a.new k ≡ bit_of a.old k && bit_of b.now k }
 {
-    assign(Operation::And, a, b);
+    each(a, |q, w| w & b[q]);
 }
 
 // a becomes the bits that are in a or in b.
@@ -292,7 +275,7 @@ pub fn or_assign(a: &mut [u64], b: &[u64])
     requires { length b.now ≡ length a.old }
     ensures { (k : ℕ) → bit_of a.new k ≡ bit_of a.old k || bit_of b.now k }
 {
-    assign(Operation::Or, a, b);
+    each(a, |q, w| w | b[q]);
 }
 
 // a becomes the bits that are in just one of a and b.
@@ -300,19 +283,7 @@ pub fn xor_assign(a: &mut [u64], b: &[u64])
     requires { length b.now ≡ length a.old }
     ensures { (k : ℕ) → bit_of a.new k ≡ xor (bit_of a.old k) (bit_of b.now k) }
 {
-    assign(Operation::Xor, a, b);
-}
-
-// out becomes what the operation makes of a and b. All three have as many words, and what out held does not matter.
-fn write(op: Operation, a: &[u64], b: &[u64], out: &mut [u64])
-    requires { (length a.now ≡ length out.old) × (length b.now ≡ length out.old) }
-    ensures { (k : ℕ) → bit_of out.new k ≡ on_bits op (bit_of a.now k) (bit_of b.now k) }
-{
-    let mut i = 0;
-    while i < out.len() {
-        out[i] = operate(op, a[i], b[i]);
-        i += 1;
-    }
+    each(a, |q, w| w ^ b[q]);
 }
 
 // out becomes the bits that are in both a and b. All three have as many words, and what out held does not matter.
@@ -320,7 +291,7 @@ pub fn and(a: &[u64], b: &[u64], out: &mut [u64])
     requires { (length a.now ≡ length out.old) × (length b.now ≡ length out.old) }
     ensures { (k : ℕ) → bit_of out.new k ≡ bit_of a.now k && bit_of b.now k }
 {
-    write(Operation::And, a, b, out);
+    each(out, |q, _| a[q] & b[q]);
 }
 
 // out becomes the bits that are in a or in b.
@@ -328,7 +299,7 @@ pub fn or(a: &[u64], b: &[u64], out: &mut [u64])
     requires { (length a.now ≡ length out.old) × (length b.now ≡ length out.old) }
     ensures { (k : ℕ) → bit_of out.new k ≡ bit_of a.now k || bit_of b.now k }
 {
-    write(Operation::Or, a, b, out);
+    each(out, |q, _| a[q] | b[q]);
 }
 
 // out becomes the bits that are in just one of a and b.
@@ -336,7 +307,7 @@ pub fn xor(a: &[u64], b: &[u64], out: &mut [u64])
     requires { (length a.now ≡ length out.old) × (length b.now ≡ length out.old) }
     ensures { (k : ℕ) → bit_of out.new k ≡ xor (bit_of a.now k) (bit_of b.now k) }
 {
-    write(Operation::Xor, a, b, out);
+    each(out, |q, _| a[q] ^ b[q]);
 }
 
 // out becomes the bits that are not in a, unused ones too.
@@ -344,18 +315,14 @@ pub fn not(a: &[u64], out: &mut [u64])
     requires { length a.now ≡ length out.old }
     ensures { (k : ℕ) → bit_of out.new k ≡ ltb k (64 * length out.old) && not (bit_of a.now k) }
 {
-    let mut i = 0;
-    while i < out.len() {
-        out[i] = !a[i];
-        i += 1;
-    }
+    each(out, |q, _| !a[q]);
 }
 
 // Word q, and 0 past the end.
 fn word_or_zero(ws: &[u64], q: usize) -> u64
     ensures { result ≡ get_or ws.now q 0 }
 {
-    if q < ws.len() { ws[q] } else { 0 }
+    ws.get(q).copied().unwrap_or(0)
 }
 
 // The 64 bits from bit p on: the rest of one word, and what the next has of them. The next word moves in two steps, since
@@ -392,12 +359,8 @@ pub fn shr(ws: &mut [u64], n: usize, s: u32)
     requires { Holds ws.old n }
     ensures { (k : ℕ) → bit_of ws.new k ≡ ltb k (64 * length ws.old) && up ws.old s k }
 {
-    let by = s as usize;
-    let mut q = ws.len();
-    while 0 < q {
-        q -= 1;
-        let v = moved_word(ws, q, by);
-        ws[q] = v;
+    for q in (0..ws.len()).rev() {
+        ws[q] = moved_word(ws, q, s as usize);
     }
 }
 
@@ -408,7 +371,7 @@ fn trim(ws: &mut [u64], n: usize)
 {
     let last = ws.len() - 1;
     let mask = unused_mask(ws.len(), n);
-    ws[last] = ws[last] & mask;
+    ws[last] &= mask;
 }
 
 // Bit k + s moves to k, in all the words of the slice. They are written from the first to the last.
@@ -416,11 +379,8 @@ fn move_down(ws: &mut [u64], s: usize)
     requires { (length ws.old ≤ 8) × (s < 0x1_0000_0000) }
     ensures { (k : ℕ) → bit_of ws.new k ≡ bit_of ws.old (k + s) }
 {
-    let mut q = 0;
-    while q < ws.len() {
-        let v = window(ws, 64 * q + s);
-        ws[q] = v;
-        q += 1;
+    for q in 0..ws.len() {
+        ws[q] = window(ws, 64 * q + s);
     }
 }
 

@@ -9,14 +9,11 @@ use lib.ListN.{length, get_or}
 use borrow.Author.Tests.{ltb-true, ltb-false}
 use Rattle.bitset.specs.Set.{bit_of}
 use Rattle.bitset.specs.Answers.{FirstOn, WordAt}
-use Rattle.bitset.specs.declared.Found.{Found}
-use Rattle.bitset.specs.declared.Found.TheVariants as first
-use Rattle.bitset.specs.declared.MaybeWord.{MaybeWord}
-use Rattle.bitset.specs.declared.MaybeWord.TheVariants as word
+use Rattle.std.specs.Prelude.{Option, Some, None}
 use Rattle.bitset.proofs.Words.{word_ext}
 use Rattle.bitset.proofs.Ext.{words_ext}
 use Rattle.bitset_calls.specs.declared.BitsAnswer.{BitsAnswer}
-use Rattle.bitset_calls.specs.Call.{done, first_answer, word_answer, Word, First, Mask, Reads, Writes}
+use Rattle.bitset_calls.specs.Call.{done, found_answer, Word, First, Mask, Reads, Writes}
 
 -- 64-bit words
 abbrev Words : List ℕ → Type 0
@@ -38,16 +35,16 @@ reads_agree false f h g = h.otherwise refl ∙ sym (g.otherwise refl)
 no : {A : Type 0} → true ≡ false → A
 no e = absurd (subst T e tt)
 
-first_one : (ws : List ℕ) (n : ℕ) (f g : Found) → FirstOn ws n f → FirstOn ws n g → first_answer f ≡ first_answer g
-first_one ws n (first.At i) (first.At j) p q = go (ltb i j) (ltb j i) refl refl
+first_one : (ws : List ℕ) (n : ℕ) (f g : Option ℕ) → FirstOn ws n f → FirstOn ws n g → found_answer f ≡ found_answer g
+first_one ws n (Some i) (Some j) p q = go (ltb i j) (ltb j i) refl refl
   where
     go : (x y : Bool) → ltb i j ≡ x → ltb j i ≡ y → done i ≡ done j
     go true y e d = no (sym p.1 ∙ q.2 i (ltb-true i j e))
     go false true e d = no (sym q.1 ∙ p.2 j (ltb-true j i d))
     go false false e d = let z : i ≡ j = omega (arith, ltb-false i j e, ltb-false j i d) in ap done z
-first_one ws n (first.At i) first.Nothing p q = no (sym p.1 ∙ q i p.0)
-first_one ws n first.Nothing (first.At j) p q = no (sym q.1 ∙ p j q.0)
-first_one ws n first.Nothing first.Nothing p q = refl
+first_one ws n (Some i) None p q = no (sym p.1 ∙ q i p.0)
+first_one ws n None (Some j) p q = no (sym q.1 ∙ p j q.0)
+first_one ws n None None p q = refl
 
 pub first_agree : (ws : List ℕ) (n : ℕ) (r s : BitsAnswer) → First ws n r → First ws n s → r ≡ s
 first_agree ws n r s p q = p.1.1 ∙ first_one ws n p.0 q.0 p.1.0 q.1.0 ∙ sym q.1.1
@@ -56,11 +53,11 @@ first_agree ws n r s p q = p.1.1 ∙ first_one ws n p.0 q.0 p.1.0 q.1.0 ∙ sym 
 abbrev Value : BitsAnswer → Type 0
 Value r = r.value < 18446744073709551616
 
-word_one : (ws : List ℕ) (n o : ℕ) (w v : MaybeWord) → Value (word_answer w) → Value (word_answer v) → WordAt ws n o w → WordAt ws n o v → word_answer w ≡ word_answer v
-word_one ws n o (word.Is w) (word.Is v) W U p q = ap done (word_ext w v W U (λ r l. p.1 r l ∙ sym (q.1 r l)))
-word_one ws n o (word.Is w) word.Nothing W U p q = absurd (omega arith)
-word_one ws n o word.Nothing (word.Is v) W U p q = absurd (omega arith)
-word_one ws n o word.Nothing word.Nothing W U p q = refl
+word_one : (ws : List ℕ) (n o : ℕ) (w v : Option ℕ) → Value (found_answer w) → Value (found_answer v) → WordAt ws n o w → WordAt ws n o v → found_answer w ≡ found_answer v
+word_one ws n o (Some w) (Some v) W U p q = ap done (word_ext w v W U (λ r l. p.1 r l ∙ sym (q.1 r l)))
+word_one ws n o (Some w) None W U p q = absurd (omega arith)
+word_one ws n o None (Some v) W U p q = absurd (omega arith)
+word_one ws n o None None W U p q = refl
 
 pub word_agree : (ws : List ℕ) (n o : ℕ) (r s : BitsAnswer) → Value r → Value s → Word ws n o r → Word ws n o s → r ≡ s
 word_agree ws n o r s R S p q =

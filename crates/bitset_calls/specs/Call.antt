@@ -1,11 +1,7 @@
 -- When a call on a set of bits is refused, and what the calls answer and leave in lent memory. Assumes nothing.
-use Rattle.std.specs.Prelude.{◌≡◌, List, Bool, true, false, ◌&&◌, cond, ℕ, ◌+◌, ◌-◌, ◌*◌, ◌/◌, ◌<◌, eqb, leb, ltb}
+use Rattle.std.specs.Prelude.{◌≡◌, List, Bool, true, false, ◌&&◌, cond, ℕ, ◌+◌, ◌-◌, ◌*◌, ◌/◌, ◌<◌, eqb, leb, ltb, Option, Some, None}
 use Rattle.bitset.specs.Set.{word_bit, bit_of}
 use Rattle.bitset.specs.Answers.{FirstOn, WordAt}
-use Rattle.bitset.specs.declared.Found.{Found}
-use Rattle.bitset.specs.declared.Found.TheVariants as first
-use Rattle.bitset.specs.declared.MaybeWord.{MaybeWord}
-use Rattle.bitset.specs.declared.MaybeWord.TheVariants as word
 use Rattle.bitset_calls.specs.declared.BitsAnswer.{BitsAnswer}
 
 -- ---- what is not refused
@@ -42,20 +38,17 @@ truth b = cond b 1 0
 abbrev pub stored : Bool → BitsAnswer
 stored b = cond b (done 0) nothing
 
-abbrev pub first_answer : Found → BitsAnswer
-first_answer (first.At k) = done k
-first_answer first.Nothing = nothing
-
-abbrev pub word_answer : MaybeWord → BitsAnswer
-word_answer (word.Is w) = done w
-word_answer word.Nothing = nothing
+-- what was looked for, or nothing
+abbrev pub found_answer : Option ℕ → BitsAnswer
+found_answer (Some v) = done v
+found_answer None = nothing
 
 -- the word at offset o, and the first bit that is on, as the set's definitions have them
 abbrev pub Word : List ℕ → ℕ → ℕ → BitsAnswer → Type 0
-Word ws n o r = (w : MaybeWord) × (WordAt ws n o w × (r ≡ word_answer w))
+Word ws n o r = (w : Option ℕ) × (WordAt ws n o w × (r ≡ found_answer w))
 
 abbrev pub First : List ℕ → ℕ → BitsAnswer → Type 0
-First ws n r = (f : Found) × (FirstOn ws n f × (r ≡ first_answer f))
+First ws n r = (f : Option ℕ) × (FirstOn ws n f × (r ≡ found_answer f))
 
 -- the bits of the last of m words that are in use
 abbrev pub Mask : ℕ → ℕ → BitsAnswer → Type 0

@@ -1,11 +1,10 @@
 -- The lengths that are told belong together: a pool can be lent exactly where lengths are told. Assumes nothing.
 use mathlib.Core.Path.{◌≡◌, refl, ◌∙◌, ap}
-use mathlib.Core.Bool.{true, cond}
+use mathlib.Core.Bool.{true}
 use Prim.Native.Nat.{ℕ, ◌<◌}
 use native.Mathlib.Omega.{arith}
 use lib.ListN.{length}
 use borrow.Author.Tests.{lt-ltb, le-ltb}
-use borrow.Table.Steps.{cases}
 use Rattle.nodes.specs.Layout.{slots_length, masks_length, book_length}
 use Rattle.means.specs.Mem.{Mem, cells_of, fits}
 use Rattle.means.proofs.Memory.{Fitting, fitting}
@@ -31,7 +30,7 @@ sizes_fit n m some most a b c =
     let o : length m.book ≡ book_length n = c ∙ ap (λ z. z.book) told in
     let e : cells_of m ≡ n = omega (arith, s) in
     let f : Fitting m = record { some = omega (arith, e); most = omega (arith, e); slots = omega (arith, e); masks = omega (arith, e); book = omega (arith, e) } in
-    (cases (fits m) (λ t. t) (λ t. absurd (omega (arith, f.some, fit_is m f ∙ ap (λ z. cond z (cells_of m) 0) t))), e)
+    (fit_is m f, e)
 
 -- and memory that is not refused for its lengths has those that are told for its cells
 pub fit_sizes : (m : Mem) → fits m ≡ true → sizes_of (cells_of m) ≡ record { code = 0; slots = length m.slots; masks = length m.masks; book = length m.book }

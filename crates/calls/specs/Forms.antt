@@ -1,5 +1,5 @@
 -- What the calls for C answer: for each answer of document 01 its number and its value. Assumes nothing.
-use Rattle.std.specs.Prelude.{◌≡◌, Bool, cond, ◌&&◌, ℕ, ltb, ℤ}
+use Rattle.std.specs.Prelude.{◌≡◌, Bool, cond, ◌&&◌, ℕ, ltb, ℤ, Float, Result, Ok, Err, Option as Maybe, Some, None}
 use Rattle.std.proofs.Math.Option.{none, some}
 use Rattle.floats.specs.Value.{value}
 use Rattle.grid.specs.Geometry.{Point}
@@ -8,12 +8,8 @@ use Rattle.seats.specs.Call.{Lookup, Sign, Remove, Insert, Fill, Cut, Clear, Pru
 use Rattle.seats.specs.Call.{refused, found, negative_is, empty_is, free_cells, done}
 use Rattle.means.specs.Mem.{Mem}
 use Rattle.voxels.specs.Answers.{Says, code_of}
-use Rattle.voxels.specs.declared.voxel.Found.{Found}
-use Rattle.voxels.specs.declared.voxel.Found.TheVariants as look
-use Rattle.pool.specs.declared.whole.Free.{Free}
-use Rattle.pool.specs.declared.whole.Free.TheVariants as free
-use Rattle.voxels.specs.declared.sign.Whether.{Whether}
-use Rattle.voxels.specs.declared.sign.Whether.TheVariants as truths
+use Rattle.voxels.specs.Refused.{number_of}
+use Rattle.voxels.specs.declared.refusal.Refusal.{Refusal}
 use Rattle.calls.specs.declared.GridAnswer.{GridAnswer}
 use Rattle.calls.specs.declared.GridNumber.{GridNumber}
 use Rattle.calls.specs.declared.GridSizes.{GridSizes}
@@ -65,18 +61,22 @@ truth_answer_of (free_cells k) = number 0
 truth_answer_of done = number 0
 
 -- ---- the pool's own answers, in the same forms
-abbrev pub answer_f : Found → GridAnswer
-answer_f (look.Value x) = record { code = 0; value = x }
-answer_f look.Nothing = code_only 10
-answer_f (look.Refused n) = code_only n
+abbrev pub code_f : Result Unit Refusal → ℕ
+code_f (Ok u) = 0
+code_f (Err e) = number_of e
 
-abbrev pub count_f : Free → GridNumber
-count_f (free.Cells k) = number k
-count_f (free.Refused n) = refusal n
+abbrev pub answer_f : Result (Maybe Float) Refusal → GridAnswer
+answer_f (Ok (Some x)) = record { code = 0; value = x }
+answer_f (Ok None) = code_only 10
+answer_f (Err e) = code_only (number_of e)
 
-abbrev pub truth_f : Whether → GridNumber
-truth_f (truths.Is b) = number (truth b)
-truth_f (truths.Refused n) = refusal n
+abbrev pub count_f : Result ℕ Refusal → GridNumber
+count_f (Ok k) = number k
+count_f (Err e) = refusal (number_of e)
+
+abbrev pub truth_f : Result Bool Refusal → GridNumber
+truth_f (Ok b) = number (truth b)
+truth_f (Err e) = refusal (number_of e)
 
 -- ---- every call for C answers in one of four forms: a code alone, what a lookup found, a count of free cells, or yes and no
 pub data Form : Type 0 where

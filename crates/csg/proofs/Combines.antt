@@ -1,18 +1,17 @@
 -- Two nodes of a sound pool joined, by what the code does at each slot: where they stand, what their two slots are, what may be called. Assumes nothing.
 use mathlib.Core.Path.{◌≡◌, refl, sym, ap, ap₂, ◌∙◌, subst}
 use mathlib.Core.Bool.{Bool, true, false, not, cond, beq}
-use mathlib.Core.List.{List, []}
-use mathlib.Core.Logic.{◌≢◌}
+use mathlib.Core.List.{List}
+use mathlib.Core.Logic.{◌≢◌, ◌⊎◌, inl, inr}
 use Prim.Native.Nat.{ℕ, zero, suc, ◌+◌, ◌-◌, ◌*◌, ◌<◌, ◌≤◌}
 use native.Mathlib.Omega.{arith}
 use lib.ListN.{get_or}
-use Rattle.bitset.specs.Set.{bit_of}
 use borrow.Author.Tests.{not-true, not-false}
 use Rattle.floats.specs.Value.{is_finite, negative, far_with}
-use Rattle.grid.specs.Combine.{Operation, union, stays_with, settled_by}
+use Rattle.grid.specs.Combine.{Operation, stays_with, settled_by}
 use Rattle.grid.specs.Node.{Node, size}
 use Rattle.nodes.specs.State.{St, Sound}
-use Rattle.nodes.specs.Layout.{Sized, st, word_of, kid_bit}
+use Rattle.nodes.specs.Layout.{Sized, st}
 use Rattle.nodes.specs.Each.{each_s}
 use Rattle.nodes.specs.Range.{In, Stands, Cells}
 use Rattle.nodes.specs.Walk.{branching, below, view_s}
@@ -20,9 +19,9 @@ use Rattle.nodes.specs.declared.walk.Slot.{Slot}
 use Rattle.nodes.specs.declared.walk.Slot.TheVariants.{Branch, Tile, Hidden}
 use Rattle.nodes.specs.Wipe.{wipe_at, empty_m}
 use Rattle.nodes.proofs.Places.{word_cell}
-use Rattle.nodes.proofs.Paths.{slot_of_lem, one_less}
-use Rattle.nodes.proofs.States.{st_slot, st_kid, cells_of}
-use Rattle.trees.specs.Combine.{take_m, FiniteLeaf, stays_at, meet_branch, meet_value, combine_at, combine_m}
+use Rattle.nodes.proofs.Paths.{slot_of_lem, one_less, view_up}
+use Rattle.nodes.proofs.States.{st_slot, cells_of}
+use Rattle.trees.specs.Combine.{take_m, FiniteLeaf, stays_at, meet_value, combine_at, combine_m}
 use Rattle.means.specs.Level.{levels, span, At}
 use Rattle.means.specs.Joined.{Joined}
 use Rattle.means.proofs.Levels.{at_wide, at_inside, at_link, at_down, at_leaf_finite}
@@ -53,37 +52,55 @@ module _ {n l : ℕ} {s : St} {x y : ℕ} (h : Joinable n l s x y) where
     pub in_y : In n y k
     in_y = slot_of_lem stands_y refl q
 
--- ---- the answer about a slot above the leaves tells its child bit
+-- ---- what the answer about a slot above the leaves tells: whether it is a branch, and its word
 abbrev is_branch : Slot → Bool
 is_branch (Branch c) = true
 is_branch (Tile w) = false
 is_branch (Hidden w) = false
 
-module _ {n x k : ℕ} (l : ℕ) (slots masks : List ℕ) (i : In n x k) (p : 0 < l) where
-  bit : is_branch (view_s (below l) (st n slots masks []) x k) ≡ bit_of masks (kid_bit x k)
-  unfolding view_s
-  bit = go l p ∙ st_kid slots masks [] i
+abbrev held : Slot → ℕ
+held (Branch c) = c
+held (Tile w) = w
+held (Hidden w) = w
+
+module _ (s : St) (l x k : ℕ) (p : 0 < l) {t : Slot} (e : t ≡ view_s (below l) s x k) where
+  tells : (is_branch t ≡ s.kid x k) × (held t ≡ s.slot x k)
+  tells = let d = e ∙ sym (view_up s l x k (λ z. omega arith)) in (ap is_branch d ∙ kid (s.kid x k) (s.val x k) (s.slot x k), ap held d ∙ word (s.kid x k) (s.val x k) (s.slot x k))
     where
-      told : (b v : Bool) (w : ℕ) → is_branch (cond b (Branch w) (cond v (Tile w) (Hidden w))) ≡ b
-      told true v w = refl
-      told false true w = refl
-      told false false w = refl
+      kid : (a b : Bool) (w : ℕ) → is_branch (cond a (Branch w) (cond b (Tile w) (Hidden w))) ≡ a
+      kid true b w = refl
+      kid false true w = refl
+      kid false false w = refl
 
-      go : (l : ℕ) → 0 < l → is_branch (view_s (below l) (st n slots masks []) x k) ≡ (st n slots masks []).kid x k
-      go zero p = absurd (omega arith)
-      go (suc l) p = told ((st n slots masks []).kid x k) ((st n slots masks []).val x k) ((st n slots masks []).slot x k)
+      word : (a b : Bool) (w : ℕ) → held (cond a (Branch w) (cond b (Tile w) (Hidden w))) ≡ w
+      word true b w = refl
+      word false true w = refl
+      word false false w = refl
 
-  module _ {t : Slot} (e : t ≡ view_s (below l) (st n slots masks []) x k) where
-    pub view_branch : {c : ℕ} → t ≡ Branch c → true ≡ bit_of masks (kid_bit x k)
-    view_branch f = sym (ap is_branch f) ∙ ap is_branch e ∙ bit
+  pub branch_on : {c : ℕ} → t ≡ Branch c → s.kid x k ≡ true
+  branch_on f = sym tells.0 ∙ ap is_branch f
 
-    pub view_else : ((c : ℕ) → t ≡ Branch c → ⊥) → false ≡ bit_of masks (kid_bit x k)
-    view_else h = none t h ∙ ap is_branch e ∙ bit
-      where
-        none : (t : Slot) → ((c : ℕ) → t ≡ Branch c → ⊥) → false ≡ is_branch t
-        none (Branch c) h = absurd (h c refl)
-        none (Tile w) h = refl
-        none (Hidden w) h = refl
+  pub branch_cell : {c : ℕ} → t ≡ Branch c → c ≡ s.slot x k
+  branch_cell f = sym (ap held f) ∙ tells.1
+
+  pub branch_off : ((c : ℕ) → t ≡ Branch c → ⊥) → s.kid x k ≡ false
+  branch_off h = sym tells.0 ∙ none t h
+    where
+      none : (t : Slot) → ((c : ℕ) → t ≡ Branch c → ⊥) → is_branch t ≡ false
+      none (Branch c) h = absurd (h c refl)
+      none (Tile w) h = refl
+      none (Hidden w) h = refl
+
+  -- a's slot
+  pub stays_branch : (o : Operation) {c : ℕ} → t ≡ Branch c → false ≡ stays_at o s x k
+  stays_branch o f = sym (rw (branch_on f) refl)
+
+  pub stays_value : (o : Operation) {u w : ℕ} {g b : Bool} → (t ≡ Tile w) ⊎ (t ≡ Hidden w) → u ≡ w → g ≡ negative u → b ≡ stays_with o → beq g b ≡ stays_at o s x k
+  stays_value o h d p q = let r = flat h in ap₂ beq (p ∙ ap negative (d ∙ sym r.1 ∙ tells.1)) q ∙ sym (rw (sym tells.0 ∙ r.0) refl)
+    where
+      flat : {w : ℕ} → (t ≡ Tile w) ⊎ (t ≡ Hidden w) → (is_branch t ≡ false) × (held t ≡ w)
+      flat (inl f) = (ap is_branch f, ap held f)
+      flat (inr f) = (ap is_branch f, ap held f)
 
 -- ---- two leaves
 finite_leaf : (n : ℕ) (slots masks book : List ℕ) → Sound n (st n slots masks book) → (x : ℕ) → At n (st n slots masks book) 0 x → FiniteLeaf slots (x - 8)
@@ -118,90 +135,53 @@ below_may (suc l) x y k p h i ex ey = rw (one_less l) (record {
   differ = below_differ h.sound l x y k h.at_x h.at_y h.differ i ex ey;
 })
 
-link_low : {n : ℕ} (l y k : ℕ) {s : St} → 0 < l → Sound n s → At n s l y → k < span l → s.kid y k ≡ true → s.slot y k < n
-link_low zero y k p sd h i e = absurd (omega arith)
-link_low (suc l) y k p sd h i e = (at_link sd l y k h i e).inside
+-- the link of a branch of b stays in the pool
+pub take_low : {n x : ℕ} (l y k : ℕ) {s : St} → 0 < l → Joinable n l s x y → k < span l → s.kid y k ≡ true → s.slot y k < n
+take_low zero y k p h i e = absurd (omega arith)
+take_low (suc l) y k p h i e = (at_link h.sound l y k h.at_y i e).inside
 
--- a's slot, by what was read of it
-module _ (o : Operation) (slots masks book : List ℕ) {n x k : ℕ} (i : In n x k) {v : Bool} (e : v ≡ bit_of masks (kid_bit x k)) where
-  pub stays_branch : v ≡ true → false ≡ stays_at o (st n slots masks book) x k
-  stays_branch h = sym (rw (st_kid slots masks book i ∙ sym e ∙ h) refl)
+-- b's slot is no branch, v is the side of its word w, and t the one that settles
+module _ (o : Operation) (n l x y k : ℕ) (s : St) {w : ℕ} {v t : Bool} (f : w ≡ s.slot y k) (e : v ≡ negative w) (g : t ≡ settled_by o) where
+  side_is : beq (negative (s.slot y k)) (settled_by o) ≡ beq v t
+  side_is = ap₂ beq (ap negative (sym f) ∙ sym e) (sym g)
 
-  pub stays_value : {w : ℕ} {g t : Bool} → v ≡ false → w ≡ get_or slots (word_of x k) 0 → g ≡ negative w → t ≡ stays_with o → beq g t ≡ stays_at o (st n slots masks book) x k
-  stays_value h f p q = ap₂ beq (p ∙ ap negative (f ∙ sym (st_slot slots masks book i))) q ∙ sym (rw (st_kid slots masks book i ∙ sym e ∙ h) refl)
+  pub value_stays : not (beq v t) ≡ true → s ≡ meet_value (empty_m n (l - 1)) o n x y k s
+  value_stays i = sym (rw (side_is ∙ not-true (beq v t) i) refl)
 
--- whether the two slots are branches
-module _ {n l x y k : ℕ} {slots masks book : List ℕ} (z : Sized n slots masks book) (h : Joinable n l (st n slots masks book) x y) (q : k < span l) where
-  kid_x : {v : Bool} → v ≡ bit_of masks (kid_bit x k) → (st n slots masks book).kid x k ≡ v
-  kid_x e = st_kid slots masks book (in_x h q) ∙ sym e
+  pub value_settles : {r : St} → not (beq v t) ≡ false → r ≡ wipe_at (empty_m n (l - 1)) n (far_with (stays_with o)) (stays_with o) x k s → r ≡ meet_value (empty_m n (l - 1)) o n x y k s
+  value_settles i p = p ∙ sym (rw (side_is ∙ not-false (beq v t) i) refl)
 
-  pub kid_y : {v : Bool} → v ≡ bit_of masks (kid_bit y k) → (st n slots masks book).kid y k ≡ v
-  kid_y e = st_kid slots masks book (in_y h q) ∙ sym e
+-- both are branches, with the cells c and d
+pub record Both (n l x y k c d : ℕ) (s : St) : Type 0 where
+  pub on_x : s.kid x k ≡ true
+  pub on_y : s.kid y k ≡ true
+  pub c_is : c ≡ s.slot x k
+  pub d_is : d ≡ s.slot y k
+  pub may : Joinable n (l - 1) s (8 + c) (8 + d)
 
-  -- the link of a branch of b stays in the pool
-  pub take_low : 0 < l → (st n slots masks book).kid y k ≡ true → get_or slots (word_of y k) 0 < n
-  take_low up e = subst (λ (w : ℕ). w < n) (st_slot slots masks book (in_y h q)) (link_low l y k up h.sound h.at_y q e)
+module _ {n l x y k : ℕ} {s : St} (h : Joinable n l s x y) (q : k < span l) (up : 0 < l) where
+  pub both : {t u : Slot} {c d : ℕ} → t ≡ view_s (below l) s y k → t ≡ Branch d → u ≡ view_s (below l) s x k → u ≡ Branch c → Both n l x y k c d s
+  both ty td ux uc =
+      let a = branch_on s l x k up ux uc in
+      let b = branch_on s l y k up ty td in
+      let f = branch_cell s l x k up ux uc in
+      let g = branch_cell s l y k up ty td in
+      record { on_x = a; on_y = b; c_is = f; d_is = g; may = rw (f, g) (below_may l x y k up h q a b) }
 
--- what is done at them, by what was read of them
-module _ (o : Operation) {n l x y k : ℕ} {slots masks book : List ℕ} (z : Sized n slots masks book) (h : Joinable n l (st n slots masks book) x y) (q : k < span l) where
-  abbrev s : St
-  s = st n slots masks book
-
-  abbrev go : ℕ → ℕ → St → St
-  go = combine_m (branching (l - 1)) (below (l - 1)) o n
-
-  abbrev meet : St → St
-  meet = meet_branch (branching (l - 1)) (below (l - 1)) o n go x y k
-
-  -- b's slot is no branch, v is the side of its word w, and t the one that settles
-  module _ {w : ℕ} {v t : Bool} (f : w ≡ get_or slots (word_of y k) 0) (e : v ≡ negative w) (g : t ≡ settled_by o) where
-    side_is : beq (negative (s.slot y k)) (settled_by o) ≡ beq v t
-    side_is = ap₂ beq (ap negative (st_slot slots masks book (in_y h q) ∙ sym f) ∙ sym e) (sym g)
-
-    pub value_stays : not (beq v t) ≡ true → s ≡ meet_value (empty_m n (l - 1)) o n x y k s
-    value_stays i = sym (rw (side_is ∙ not-true (beq v t) i) refl)
-
-    pub value_settles : {r : St} → not (beq v t) ≡ false → r ≡ wipe_at (empty_m n (l - 1)) n (far_with (stays_with o)) (stays_with o) x k s
-        → r ≡ meet_value (empty_m n (l - 1)) o n x y k s
-    value_settles i p = p ∙ sym (rw (side_is ∙ not-false (beq v t) i) refl)
-
-  -- b's slot is a branch, and v is whether a's is one
-  module _ {v : Bool} (e : v ≡ bit_of masks (kid_bit x k)) where
-    pub branch_taken : {r : St} → not v ≡ true → r ≡ take_m (branching (l - 1)) (below (l - 1)) o n x y k s → r ≡ meet s
-    branch_taken i p = p ∙ sym (rw (kid_x z h q e ∙ not-true v i) refl)
-
-    -- then c and d are the two cells
-    module _ {c d : ℕ} (i : not v ≡ false) (f : c ≡ get_or slots (word_of x k) 0) (g : d ≡ get_or slots (word_of y k) 0) where
-      c_is : c ≡ s.slot x k
-      c_is = f ∙ sym (st_slot slots masks book (in_x h q))
-
-      d_is : d ≡ s.slot y k
-      d_is = g ∙ sym (st_slot slots masks book (in_y h q))
-
-      pub branch_joined : {r : St} → r ≡ go (8 + c) (8 + d) s → r ≡ meet s
-      branch_joined p = p ∙ ap₂ (λ (c d : ℕ). go (8 + c) (8 + d) s) c_is d_is ∙ sym (rw (kid_x z h q e ∙ not-false v i) refl)
-
-      cells_may : 0 < l → s.kid y k ≡ true → Joinable n (l - 1) s (8 + c) (8 + d)
-      cells_may up ey = rw (c_is, d_is) (below_may l x y k up h q (kid_x z h q e ∙ not-false v i) ey)
-
-  -- whatever the two are: v is whether a's stays, and u whether b's is a branch
-  module _ {v : Bool} (e : v ≡ stays_at o s x k) where
+  -- whether a's slot stays is v; else what is done at it goes by what the two are
+  module _ (o : Operation) {v : Bool} (e : v ≡ stays_at o s x k) where
     pub slot_stays : v ≡ true → s ≡ step o n (l - 1) x y k s
     slot_stays i = sym (rw (sym e ∙ i) refl)
 
-    module _ {u : Bool} {r : St} (i : v ≡ false) (f : u ≡ bit_of masks (kid_bit y k)) where
-      pub slot_branch : u ≡ true → r ≡ meet s → r ≡ step o n (l - 1) x y k s
-      slot_branch g p = p ∙ sym (rw (sym e ∙ i, kid_y z h q f ∙ g) refl)
+    module _ {r : St} (i : v ≡ false) where
+      pub slot_value : s.kid y k ≡ false → r ≡ meet_value (empty_m n (l - 1)) o n x y k s → r ≡ step o n (l - 1) x y k s
+      slot_value b p = p ∙ sym (rw (sym e ∙ i, b) refl)
 
-      pub slot_value : u ≡ false → r ≡ meet_value (empty_m n (l - 1)) o n x y k s → r ≡ step o n (l - 1) x y k s
-      slot_value g p = p ∙ sym (rw (sym e ∙ i, kid_y z h q f ∙ g) refl)
+      pub slot_taken : s.kid y k ≡ true → s.kid x k ≡ false → r ≡ take_m (branching (l - 1)) (below (l - 1)) o n x y k s → r ≡ step o n (l - 1) x y k s
+      slot_taken b a p = p ∙ sym (rw (sym e ∙ i, b, a) refl)
 
--- what joining two branches asks, as it is asked: then their cells may be joined
-module _ {n l x y k : ℕ} {slots masks book : List ℕ}
-    (p : Sized n slots masks book × Joinable n l (st n slots masks book) x y × (0 < l) × (k < span l) × ((st n slots masks book).kid y k ≡ true)) where
-  pub pair_may : {v : Bool} {c d : ℕ} → v ≡ bit_of masks (kid_bit x k) → v ≡ true → c ≡ get_or slots (word_of x k) 0 → d ≡ get_or slots (word_of y k) 0
-      → Joinable n (l - 1) (st n slots masks book) (8 + c) (8 + d)
-  pair_may e i f g = cells_may union p.0 p.1 p.3 e (ap not i) f g p.2 p.4
+      pub slot_joined : {c d : ℕ} → Both n l x y k c d s → r ≡ combine_m (branching (l - 1)) (below (l - 1)) o n (8 + c) (8 + d) s → r ≡ step o n (l - 1) x y k s
+      slot_joined b p = p ∙ ap₂ (λ (c d : ℕ). combine_m (branching (l - 1)) (below (l - 1)) o n (8 + c) (8 + d) s) b.c_is b.d_is ∙ sym (rw (sym e ∙ i, b.on_y, b.on_x) refl)
 
 module _ (o : Operation) {n : ℕ} where
   -- after the first k slots the two nodes may be joined still

@@ -7,18 +7,17 @@ use mathlib.Core.Logic.{◌⊎◌, inl, inr, ◌↔◌}
 use mathlib.Core.Option.{Option, none, some}
 use Prim.Native.Nat.{ℕ, suc, ◌-◌, ◌≤◌}
 use native.Mathlib.Omega.{arith}
-use Rattle.floats.proofs.Words.{on_case}
 use Rattle.bitset.proofs.Digits.{lt_or_le}
-use Rattle.seats.specs.Call.{Lookup, Sign, Remove, Insert, Fill, Cut, Clear, Prune, Flip, FillSigns, IsEmpty, Call, One, Two, Prepare, Count, Answer}
+use Rattle.seats.specs.Call.{Call, Answer}
 use Rattle.seats.specs.Call.{refused, found, negative_is, empty_is, free_cells, done}
-use Rattle.seats.specs.Promise.{Verdict, refuse, give, turn, loose, Accepted, grants, refuse_or, Keeps, Promise}
+use Rattle.seats.specs.Promise.{Accepted, grants, refuse_or, Keeps, Promise}
 use Rattle.seats.specs.Refusal as list
 use Rattle.seats.specs.Refusal.{first, order, refusal}
 use Rattle.seats.proofs.Refusal.{Each}
-use Rattle.nodes.specs.Test.{sound_b}
-use Rattle.means.specs.Mem.{Mem, cells_of, pool_of, reads_in}
+use Rattle.means.specs.Mem.{Mem, reads_in}
 use Rattle.voxels.specs.Lent.{lent}
 use Rattle.voxels.specs.Answers.{code_of}
+use Rattle.voxels.proofs.Granted.{keeps_answer, granted}
 use Rattle.calls.specs.Forms.{answer_of, count_answer_of, truth_answer_of, Form, plain, lookup, count, whether, form_of, to_c, code_in, CodeOnly, Out, code, Answered}
 use Rattle.demands.specs.Rows.{Row, Given, Refuses}
 use Rattle.demands.proofs.Rows.{NoneBefore, row_is}
@@ -83,35 +82,6 @@ given_one c m j k (r, b) (r', b') = elim (lt_or_le j k) [
 ]
 
 -- ---- what a call promises
-
--- the answer of a verdict; of a call that is not refused it is no refusal
-abbrev answer_in : Verdict → Answer
-answer_in (refuse n) = refused n
-answer_in (give a) = a
-answer_in (turn a) = a
-answer_in loose = done
-
-keeps_answer : (v : Verdict) (c : Call) (m : Mem) (r : Answer) (m' : Mem) → Keeps 3 (2 ∷ 2 ∷ []) lent v c m r m' → r ≡ answer_in v
-keeps_answer (refuse n) c m r m' h = h.0
-keeps_answer (give a) c m r m' h = h.0
-keeps_answer (turn a) c m r m' h = h.0
-keeps_answer loose c m r m' h = h.0
-
-granted : (c : Call) (m : Mem) → Accepted (answer_in (grants 3 (2 ∷ 2 ∷ []) lent c m))
-granted (One i (Lookup p)) m = tt
-granted (One i (Sign p)) m = tt
-granted (One i (Remove p)) m = on_case (sound_b (cells_of m) (pool_of m)) (λ s. rw s tt) (λ s. rw s tt)
-granted (One i (Insert p v)) m = on_case (sound_b (cells_of m) (pool_of m)) (λ s. rw s tt) (λ s. rw s tt)
-granted (One i (Fill v)) m = tt
-granted (One i (Cut t)) m = tt
-granted (One i Clear) m = tt
-granted (One i Prune) m = tt
-granted (One i Flip) m = tt
-granted (One i FillSigns) m = tt
-granted (One i IsEmpty) m = tt
-granted (Two x i j) m = tt
-granted Prepare m = tt
-granted Count m = tt
 
 -- the call c on m answers r and leaves m'
 module _ (c : Call) (m m' : Mem) (r : Answer) (h : Promise 3 (2 ∷ 2 ∷ []) lent c m r m') where

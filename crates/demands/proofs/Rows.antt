@@ -51,7 +51,7 @@ unmarked k = decided (λ e. eqb-false k 1 (not-true (eqb k 1) e)) (λ e h. h (eq
 
 -- ---- the lengths
 together_fits : (m : Mem) (n : ℕ) → Together n m → fits m ≡ true
-together_fits m n t = on_case (fits m) (λ e. e) (λ e. absurd (none (rw e at (fit_is m f))))
+together_fits m n t = fit_is m f
   where
     same : cells_of m ≡ n
     same = omega (arith, t.slots)
@@ -64,9 +64,6 @@ together_fits m n t = on_case (fits m) (λ e. e) (λ e. absurd (none (rw e at (f
       masks = omega (arith, same, t.masks);
       book = omega (arith, same, t.book);
     }
-
-    none : cells_of m ≡ 0 → ⊥
-    none e = omega (arith, same, t.least)
 
 fits_together : (m : Mem) → fits m ≡ true → Together (cells_of m) m
 fits_together m e =

@@ -4,8 +4,9 @@ use mathlib.Core.Bool.{Bool, true, false, not, cond}
 use Prim.Native.Nat.{ℕ, zero, suc, ◌+◌, ◌/◌, ◌%◌, ◌^◌, ◌<◌}
 use native.Mathlib.Omega.{arith}
 use lib.Dec.{T, leb, eqb}
-use lib.Ieee.{Float, nan, inf, fin, binary32, odd, of_fields, of_bits, to_bits, neg, is_nan, nan_bits, fits, lt}
+use lib.Ieee.{Float, nan, inf, fin, binary32, odd, of_fields, of_bits, to_bits, is_nan, nan_bits, fits}
 use lib.Ieee.Scale.{finite}
+use Rattle.std.specs.Float.{float_is_finite}
 use lib.Ieee.Bits.{nan_bits_is, of_bits-to_bits}
 use borrow.Author.Tests.{eq-eqb, ne_eqb, eqb-true, eqb-false, not-true}
 use Rattle.floats.specs.Value.{value, is_finite, negative, negated, far, far_with, least, most}
@@ -66,10 +67,6 @@ pub finite_of : (x : Float) (w : ℕ) → x ≡ value w → is_finite w ≡ true
 unfolding is_finite
 finite_of x w e h = ap finite e ∙ h
 
-pub finite_cond : (b : Bool) (x y : Float) → finite x ≡ true → finite y ≡ true → finite (cond b x y) ≡ true
-finite_cond true x y p q = p
-finite_cond false x y p q = q
-
 pub finite_negated : (w : ℕ) → is_finite (negated w) ≡ is_finite w
 finite_negated w = finite_word (negated w) ∙ ap (λ (n : ℕ). not (eqb (n / 8388608) 255)) (negated_size w) ∙ sym (finite_word w)
 
@@ -89,16 +86,9 @@ module _ (v w : ℕ) (p : is_finite v ≡ true) (q : is_finite w ≡ true) where
   pub finite_most : is_finite (most v w) ≡ true
   finite_most = most_has (λ n. is_finite n ≡ true) v w p q
 
--- ---- a float strictly between the infinities is finite. 2139095040 is 7F800000, the bits of +infinity
-pub between_infinities : (x : Float) → lt x (of_bits binary32 2139095040) ≡ true → lt (neg (of_bits binary32 2139095040)) x ≡ finite x
-unfolding lt of_bits neg
-between_infinities nan h = refl
-between_infinities (inf true) h = refl
-between_infinities (inf false) h = absurd (subst T (sym h) tt)
-between_infinities (fin s m e) h = refl
-
-pub not_below_infinity : (x : Float) → lt x (of_bits binary32 2139095040) ≡ false → false ≡ finite x
-unfolding lt of_bits
-not_below_infinity nan h = refl
-not_below_infinity (inf s) h = refl
-not_below_infinity (fin s m e) h = absurd (subst T h tt)
+-- ---- std's test of a float is the same
+pub finite_is : (x : Float) → float_is_finite x ≡ finite x
+unfolding float_is_finite
+finite_is nan = refl
+finite_is (inf s) = refl
+finite_is (fin s m e) = refl

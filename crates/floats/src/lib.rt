@@ -15,12 +15,12 @@ pub fn finite_word(w: u32) -> bool
     w % 0x8000_0000 / 0x0080_0000 != 255
 }
 
-// Strictly between the two infinities: neither NaN nor infinite.
+// Neither NaN nor infinite.
+#[tactic(auto, using(crate::proofs::Finite::finite_is))]
 pub fn finite_value(x: f32) -> bool
     ensures { result ≡ finite x }
 {
-    let infinity = f32::from_bits(0x7f80_0000);
-    x < infinity && -infinity < x
+    x.is_finite()
 }
 
 // The word without its sign, with 1 added to the exponent: this carries into the sign bit exactly if the exponent is all ones. So the sign of many raised words joined bit
@@ -91,6 +91,7 @@ fn chosen_word(first: bool, x: f32, y: f32) -> u32
 }
 
 // The two choices differ only where the words are the two zeros, and then joining their bits gives -0. There is no branch, so a loop over words vectorises.
+#[tactic(auto, using(crate::proofs::Finite::finite_of))]
 pub fn least_word(v: u32, w: u32) -> u32
     requires v_value { is_finite v ≡ true }
     requires w_value { is_finite w ≡ true }
@@ -102,6 +103,7 @@ pub fn least_word(v: u32, w: u32) -> u32
 }
 
 // As least_word; the common bits of the two zeros are +0.
+#[tactic(auto, using(crate::proofs::Finite::finite_of))]
 pub fn most_word(v: u32, w: u32) -> u32
     requires v_value { is_finite v ≡ true }
     requires w_value { is_finite w ≡ true }

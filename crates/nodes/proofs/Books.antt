@@ -1,7 +1,7 @@
 -- From changes of the book to changes of the state. Assumes nothing.
 use mathlib.Core.Path.{◌≡◌, refl, sym, ap, ◌∙◌, subst}
 use mathlib.Core.Logic.{◌⊎◌, inl, inr}
-use mathlib.Core.Bool.{Bool, true, false, cond, ◌&&◌}
+use mathlib.Core.Bool.{true, false, cond, ◌&&◌}
 use mathlib.Core.List.{List}
 use Prim.Native.Nat.{ℕ, ◌+◌, ◌-◌, ◌<◌, ◌≤◌}
 use native.Mathlib.Omega.{arith}
@@ -9,6 +9,7 @@ use lib.ListN.{length, get_or, set, length-set}
 use lib.Seq.{get_or-set_same, get_or-set_other}
 use lib.Dec.{ltb, leb, eqb}
 use borrow.Author.Tests.{lt-ltb, le-ltb, le-leb, lt-leb, eq-eqb, ne_eqb, ltb-true, leb-true}
+use Rattle.std.proofs.lemmas.Bool.{and_parts}
 use Rattle.bitset.proofs.Digits.{lt_or_le, is_or_not}
 use Rattle.nodes.specs.State.{linked}
 use Rattle.nodes.specs.Layout.{st, part, count_place, head, stack_place, book_length}
@@ -49,18 +50,11 @@ module _ (n : ℕ) (sl mk bk : List ℕ) where
   pub spare_of : ready_s n (st n sl mk bk) ≡ true → Spare n bk
   unfolding st
   spare_of e =
-      let p : (ltb 0 (get_or bk count_place 0) ≡ true) × (leb (get_or bk count_place 0) n && ltb (part (head + n) n bk (get_or bk count_place 0 - 1)) n ≡ true) = both _ _ e in
-      let q : (leb (get_or bk count_place 0) n ≡ true) × (ltb (part (head + n) n bk (get_or bk count_place 0 - 1)) n ≡ true) = both _ _ p.1 in
+      let p : (ltb 0 (get_or bk count_place 0) ≡ true) × (leb (get_or bk count_place 0) n && ltb (part (head + n) n bk (get_or bk count_place 0 - 1)) n ≡ true) = and_parts _ _ e in
+      let q : (leb (get_or bk count_place 0) n ≡ true) × (ltb (part (head + n) n bk (get_or bk count_place 0 - 1)) n ≡ true) = and_parts _ _ p.1 in
       let some : 0 < get_or bk count_place 0 = ltb-true _ _ p.0 in
       let few : get_or bk count_place 0 ≤ n = leb-true _ _ q.0 in
       record { some = some; few = few; inside = subst (λ (c : ℕ). c < n) (sym (next_at few some)) (ltb-true _ _ q.1) }
-    where
-      both : (a b : Bool) → a && b ≡ true → (a ≡ true) × (b ≡ true)
-      both true b e = (refl, e)
-      both false b e = absurd (no e)
-        where
-          no : false ≡ true → ⊥
-          no e = let z : ◌≡◌ {A = ℕ} 0 1 = cc in omega arith
 
   module _ {k : ℕ} (e : k ≡ get_or bk count_place 0) where
     some : (k ≡ 0 → ⊥) → 0 < get_or bk count_place 0

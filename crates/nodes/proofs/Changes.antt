@@ -1,17 +1,16 @@
 -- From changes of the lists to changes of the state: the slots' words and the masks' bits by places, and the parts of the book. Assumes nothing.
 use mathlib.Core.Path.{◌≡◌, refl, sym, ap, ◌∙◌, subst}
-use mathlib.Core.Logic.{◌⊎◌, inl, inr}
+use mathlib.Core.Logic.{inl, inr}
 use mathlib.Core.Bool.{Bool, true, false, cond, ◌&&◌}
 use mathlib.Core.List.{List}
-use Prim.Native.Nat.{ℕ, ◌+◌, ◌-◌, ◌*◌, ◌/◌, ◌<◌, ◌≤◌}
+use Prim.Native.Nat.{ℕ, ◌+◌, ◌*◌, ◌/◌, ◌<◌, ◌≤◌}
 use native.Mathlib.Omega.{arith}
 use lib.ListN.{length, get_or, set, length-set}
 use lib.Seq.{get_or-set_same, get_or-set_other}
 use lib.Dec.{eqb}
-use borrow.Author.Count.{below_none, below_more}
 use borrow.Author.Tests.{lt-ltb, le-ltb, eq-eqb, ne_eqb}
 use Rattle.bitset.specs.Set.{bit_of, word_bit}
-use Rattle.bitset.proofs.Digits.{lt_or_le, is_or_not}
+use Rattle.bitset.proofs.Digits.{is_or_not}
 use Rattle.bitset.proofs.Words.{zero_bit, ones_bit}
 use Rattle.bitset.proofs.Sets.{bit_set}
 use Rattle.floats.specs.Value.{far}
@@ -124,48 +123,6 @@ painted mk p q v a hp hq e j =
     bit_set (set mk p 0) q v (omega (arith, length-set mk p 0)) j
     ∙ (λ i. cond (eqb (j / 64) q) ((ap (λ (w : ℕ). word_bit w j) e ∙ full_bit a j) i) (bit_set mk p 0 hp j i))
     ∙ ap (λ (t : Bool). cond (eqb (j / 64) q) a (cond (eqb (j / 64) p) t (bit_of mk j))) (zero_bit j)
-
--- ---- a loop that gives w to the places from base on, of which i are done
-pub record Filled (base w : ℕ) (l₀ l : List ℕ) (i : ℕ) : Type 0 where
-  pub long : length l ≡ length l₀
-  pub done : (p : ℕ) → p < i → get_or l (base + p) 0 ≡ w
-  pub left : (p : ℕ) → (p < base) ⊎ (base + i ≤ p) → get_or l p 0 ≡ get_or l₀ p 0
-
-pub filled_none : (base w : ℕ) (l : List ℕ) → Filled base w l l 0
-filled_none base w l = record { long = refl; done = below_none (λ p. get_or l (base + p) 0 ≡ w); left = λ p h. refl }
-
-module _ {base w : ℕ} {l₀ l : List ℕ} {i : ℕ} (d : Filled base w l₀ l i) where
-  pub filled_more : base + i < length l₀ → Filled base w l₀ (set l (base + i) w) (i + 1)
-  filled_more h = record {
-    long = length-set l (base + i) w ∙ d.long;
-    done = below_more (λ p. get_or (set l (base + i) w) (base + p) 0 ≡ w) i (λ p q. get_or-set_other l (base + i) (base + p) w 0 (λ e. omega arith) ∙ d.done p q)
-        (get_or-set_same l (base + i) w 0 (omega (arith, d.long)));
-    left = λ p q. get_or-set_other l (base + i) p w 0 (apart p q) ∙ d.left p (wider p q);
-  }
-    where
-      apart : (p : ℕ) → (p < base) ⊎ (base + (i + 1) ≤ p) → p ≡ base + i → ⊥
-      apart p (inl q) e = omega arith
-      apart p (inr q) e = omega arith
-
-      wider : (p : ℕ) → (p < base) ⊎ (base + (i + 1) ≤ p) → (p < base) ⊎ (base + i ≤ p)
-      wider p (inl q) = inl q
-      wider p (inr q) = inr (omega arith)
-
--- the 64 places of cell c
-pub filled_cell : (c w : ℕ) {l₀ l : List ℕ} {i : ℕ} → Filled (4096 + 64 * c) w l₀ l i → i ≡ 64 → (j : ℕ) → get_or l j 0 ≡ cond (eqb (j / 64) (64 + c)) w (get_or l₀ j 0)
-filled_cell c w {l₀} {l} {i} d e j = elim (is_or_not (j / 64) (64 + c)) [
-  | inl q ↦
-      let p : 4096 + 64 * c + (j - (4096 + 64 * c)) ≡ j = omega arith in
-      rw (eq-eqb (j / 64) (64 + c) q) (ap (λ (m : ℕ). get_or l m 0) (sym p) ∙ d.done (j - (4096 + 64 * c)) (omega arith))
-  | inr q ↦ rw (ne_eqb (j / 64) (64 + c) q) (d.left j (out q (lt_or_le j (4096 + 64 * c))))
-]
-  where
-    out : (j / 64 ≡ 64 + c → ⊥) → (j < 4096 + 64 * c) ⊎ (4096 + 64 * c ≤ j) → (j < 4096 + 64 * c) ⊎ (4096 + 64 * c + i ≤ j)
-    out q (inl h) = inl h
-    out q (inr h) = elim (lt_or_le j (4096 + 64 * c + i)) [
-      | inl r ↦ absurd (q (omega arith))
-      | inr r ↦ inr r
-    ]
 
 -- ---- the changes by their steps
 pub attach_by : (x k w : ℕ) (a : Bool) (s : St) {s₁ s₂ s₃ : St} {r : ℕ} → r ≡ next s → s₁ ≡ take_s x k s → s₂ ≡ cell_s r w a s₁ → s₃ ≡ slot_s x k r true false s₂ → s₃ ≡ attach_s x k w a s

@@ -12,3 +12,4 @@ pub mod Leaves
 pub mod Tells
 pub mod Each
 pub mod Wipes
+pub mod Pools

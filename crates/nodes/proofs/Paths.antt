@@ -1,4 +1,6 @@
 -- The levels by their numbers, as the code goes them, and what a slot is. Assumes nothing.
+use Rattle.std.specs.Prelude.{Option, Some, None}
+use Rattle.std.specs.Bool.{then_some}
 use mathlib.Core.Path.{◌≡◌, refl, sym, ap, ◌∙◌, subst}
 use mathlib.Core.Bool.{Bool, true, false, cond}
 use mathlib.Core.List.{List}
@@ -6,6 +8,9 @@ use mathlib.Core.Logic.{inl, inr}
 use Prim.Native.Nat.{ℕ, zero, suc, ◌+◌, ◌-◌, ◌<◌, ◌≤◌}
 use native.Mathlib.Omega.{arith}
 use lib.ListN.{length, get_or}
+use lib.Dec.{ltb}
+use borrow.Author.Tests.{ltb-true}
+use Rattle.std.proofs.lemmas.Bool.{and_parts}
 use Rattle.bitset.specs.Set.{bit_of}
 use Rattle.bitset.proofs.Digits.{lt_or_le}
 use Rattle.grid.specs.Geometry.{Point, slot_of}
@@ -13,7 +18,7 @@ use Rattle.grid.specs.Node.{size}
 use Rattle.grid.proofs.Geometry.{slot_lt}
 use Rattle.nodes.specs.State.{St}
 use Rattle.nodes.specs.Layout.{st, word_of, kid_bit, val_bit}
-use Rattle.nodes.specs.Walk.{branching, below, closed_s, view_s}
+use Rattle.nodes.specs.Walk.{branching, below, closed_s, view_s, child_s, child_r}
 use Rattle.nodes.specs.Range.{In, Stands}
 use Rattle.nodes.specs.declared.walk.Slot.{Slot}
 use Rattle.nodes.specs.declared.walk.Slot.TheVariants.{Branch, Tile, Hidden}
@@ -71,6 +76,22 @@ stands_below {n} {l} {x} s h c hc =
     let e : l ≡ suc (l - 1) = down l h in
     record { known = omega (arith, s.known); node = omega arith; slots = wide_cell (8 + c) (omega arith) ∙ low_size (l - 1) (omega (arith, s.known)) }
 
+-- ---- an answer that is there where a test holds
+pub some_if : (b : Bool) (c : ℕ) → then_some b c ≡ cond b (Some c) None
+some_if true c = refl
+some_if false c = refl
+
+pub some_under : {c d : ℕ} (b : Bool) → Some c ≡ cond b (Some d) None → (b ≡ true) × (c ≡ d)
+some_under true e = (refl, cc)
+some_under false e = absurd cc
+
+pub none_under : (b : Bool) (d : ℕ) → None ≡ cond b (Some d) None → b ≡ false
+none_under true d e = cc
+none_under false d e = refl
+
+pub low_under : {c d n : ℕ} → ltb d n ≡ true → c ≡ d → c < n
+low_under {c} {d} {n} h e = subst (λ (i : ℕ). i < n) (sym e) (ltb-true d n h)
+
 -- ---- what a slot is
 pub view_leaf : (s : St) (l x k : ℕ) → l ≡ 0 → closed_s s x k ≡ view_s (below l) s x k
 unfolding view_s
@@ -96,3 +117,30 @@ module _ (slots masks book : List ℕ) {n x k : ℕ} (i : In n x k) where
   view_closed l h q r e =
       let t : (st n slots masks book).kid x k ≡ false = st_kid slots masks book i ∙ sym q ∙ r in
       e ∙ rw t at (view_up (st n slots masks book) l x k h)
+
+-- ---- where slot k of node x leads, as the code reads it
+module _ (slots masks book : List ℕ) {n x k : ℕ} (i : In n x k) {b : Bool} (e : b ≡ bit_of masks (kid_bit x k)) where
+  pub child_none : b ≡ false → None ≡ child_r n (st n slots masks book) x k
+  child_none h = sym (rw (st_kid slots masks book i ∙ sym e ∙ h) refl)
+
+  pub child_by : {c : ℕ} {r : Option ℕ} → b ≡ true → c ≡ get_or slots (word_of x k) 0 → r ≡ then_some (ltb c n) c → r ≡ child_r n (st n slots masks book) x k
+  child_by {c} h d p =
+      p ∙ some_if (ltb c n) c ∙ ap (λ (j : ℕ). cond (ltb j n) (Some j) None) (d ∙ sym (st_slot slots masks book i)) ∙ sym (rw (st_kid slots masks book i ∙ sym e ∙ h) refl)
+
+-- ---- where a slot leads, taken apart
+pub record Leads (n : ℕ) (s : St) (x k c : ℕ) : Type 0 where
+  pub on : child_s n s x k ≡ true
+  pub there : c ≡ s.slot x k
+  pub low : c < n
+
+module _ (n : ℕ) (s : St) (x k : ℕ) where
+  pub child_go : {c : ℕ} → Some c ≡ child_r n s x k → Leads n s x k c
+  child_go e =
+      let t = some_under (child_s n s x k) e in
+      record { on = t.0; there = t.1; low = low_under (and_parts _ _ t.0).1 t.1 }
+
+  pub child_stop : None ≡ child_r n s x k → child_s n s x k ≡ false
+  child_stop e = none_under (child_s n s x k) _ e
+
+pub child_low : (slots masks book : List ℕ) {n x k c : ℕ} → In n x k → Some c ≡ child_r n (st n slots masks book) x k → c < n
+child_low slots masks book {n} {x} {k} i e = (child_go n (st n slots masks book) x k e).low

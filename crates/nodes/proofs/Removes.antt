@@ -1,4 +1,5 @@
 -- A remove, by what the code does at each slot and on the way back. Assumes nothing.
+use Rattle.std.specs.Prelude.{Option, Some, None}
 use mathlib.Core.Path.{◌≡◌, refl, sym, ap, ap₂, ◌∙◌, subst}
 use mathlib.Core.Bool.{Bool, true, false, not, cond, ◌&&◌}
 use mathlib.Core.List.{List}
@@ -6,7 +7,7 @@ use Prim.Native.Nat.{ℕ, zero, suc, ◌+◌, ◌-◌, ◌*◌, ◌<◌, ◌≤�
 use native.Mathlib.Omega.{arith}
 use lib.ListN.{get_or}
 use lib.Dec.{ltb, eqb, lit<}
-use borrow.Author.Tests.{lt-ltb, le-ltb, ltb-true, eq-eqb, eqb-true, not-true}
+use borrow.Author.Tests.{lt-ltb, le-ltb, eq-eqb, eqb-true, not-true}
 use Rattle.bitset.specs.Set.{bit_of, every, word_bit}
 use Rattle.bitset.proofs.Every.{both_ways, every_intro, every_elim}
 use Rattle.bitset.proofs.Sets.{has_own}
@@ -24,13 +25,12 @@ use Rattle.nodes.specs.Split.{go_on_r, split_s, split_r}
 use Rattle.nodes.specs.Walk.{branching, below, view_s, grown_m}
 use Rattle.nodes.specs.declared.walk.Slot.{Slot}
 use Rattle.nodes.specs.declared.walk.Slot.TheVariants.{Branch, Tile, Hidden}
-use Rattle.nodes.specs.declared.walk.Below.{Below}
-use Rattle.nodes.specs.declared.walk.Below.TheVariants.{Go, Stop}
 use Rattle.nodes.proofs.Places.{cell_in, cell_word}
 use Rattle.nodes.proofs.States.{st_kid, st_val}
 use Rattle.nodes.proofs.Changes.{st_ext, val_kid, val_val}
-use Rattle.nodes.proofs.Paths.{one_less}
-use Rattle.nodes.proofs.Inserts.{go_stop, grow_low, grow_is}
+use Rattle.nodes.proofs.Paths.{one_less, some_if}
+use Rattle.std.specs.Bool.{then_some}
+use Rattle.nodes.proofs.Inserts.{branch_low, grow_low, grow_is}
 
 -- ---- hide
 pub hide_step : (n : ℕ) (mk mk' sl book : List ℕ) {x k i : ℕ} → In n x k → i ≡ word_of x k → ((j : ℕ) → bit_of mk' j ≡ cond (eqb j (64 * (64 + n) + i)) false (bit_of mk j))
@@ -105,53 +105,45 @@ module _ (n x k l : ℕ) (s : St) {c : ℕ} (e : c ≡ s.slot x k) where
 
 -- ---- split: its answer and the state that it leaves
 module _ (n : ℕ) where
-  pub go_branch : {t : Slot} {c : ℕ} → t ≡ Branch c → c < n → Go c ≡ go_on_r n t
+  pub go_branch : {t : Slot} {c : ℕ} {r : Option ℕ} → t ≡ Branch c → r ≡ then_some (ltb c n) c → r ≡ go_on_r n t
   unfolding go_on_r
-  go_branch {t} {c} e h = sym (ap (go_on_r n) e ∙ rw (lt-ltb c n h) refl)
+  go_branch {c = c} e p = p ∙ some_if (ltb c n) c ∙ sym (ap (go_on_r n) e)
 
-  pub go_out : {t : Slot} {c : ℕ} → t ≡ Branch c → n ≤ c → Stop ≡ go_on_r n t
-  unfolding go_on_r
-  go_out {t} {c} e h = sym (ap (go_on_r n) e ∙ rw (le-ltb c n h) refl)
-
-  pub go_else : (t : Slot) → ((c : ℕ) → t ≡ Branch c → ⊥) → Stop ≡ go_on_r n t
+  pub go_else : (t : Slot) → ((c : ℕ) → t ≡ Branch c → ⊥) → None ≡ go_on_r n t
   unfolding go_on_r
   go_else (Branch c) h = absurd (h c refl)
   go_else (Tile u) h = refl
   go_else (Hidden u) h = refl
 
-abbrev pub Parted : ℕ → ℕ → ℕ → St → Slot → Below → St → Type 0
+abbrev pub Parted : ℕ → ℕ → ℕ → St → Slot → Option ℕ → St → Type 0
 Parted n x k s t r s' = (r ≡ split_r n s t) × (s' ≡ split_s n x k s t)
 
 module _ (n x k : ℕ) (s : St) {t : Slot} where
   module _ {u : ℕ} {b : Bool} (e : t ≡ Tile u) (p : b ≡ is_finite u) where
-    pub split_no : b ≡ false → Parted n x k s t Stop s
+    pub split_no : b ≡ false → Parted n x k s t None s
     unfolding split_r split_s
     split_no q = (sym (ap (split_r n s) e ∙ rw (sym p ∙ q) refl), sym (ap (split_s n x k s) e ∙ rw (sym p ∙ q) refl))
 
-    pub split_tile : b ≡ true → {r : Below} {s' : St} → r ≡ grow_r n s → s' ≡ grow_s n x k u true s → Parted n x k s t r s'
+    pub split_tile : b ≡ true → {r : Option ℕ} {s' : St} → r ≡ grow_r n s → s' ≡ grow_s n x k u true s → Parted n x k s t r s'
     unfolding split_r split_s
     split_tile q a d = (a ∙ sym (ap (split_r n s) e ∙ rw (sym p ∙ q) refl), d ∙ sym (ap (split_s n x k s) e ∙ rw (sym p ∙ q) refl))
 
-pub split_other : (n x k : ℕ) (s : St) (t : Slot) {r : Below} → ((u : ℕ) → t ≡ Tile u → ⊥) → r ≡ go_on_r n t → Parted n x k s t r s
+pub split_other : (n x k : ℕ) (s : St) (t : Slot) {r : Option ℕ} → ((u : ℕ) → t ≡ Tile u → ⊥) → r ≡ go_on_r n t → Parted n x k s t r s
 unfolding go_on_r split_r split_s
 split_other n x k s (Branch c) h a = (a, refl)
 split_other n x k s (Tile u) h a = absurd (h u refl)
 split_other n x k s (Hidden u) h a = (a, refl)
 
 -- where a remove goes on, the cell is one of the pool's
-pub split_low : (n : ℕ) (s : St) (t : Slot) {c : ℕ} → Go c ≡ split_r n s t → c < n
+pub split_low : (n : ℕ) (s : St) (t : Slot) {c : ℕ} → Some c ≡ split_r n s t → c < n
 unfolding split_r
-split_low n s (Branch d) {c} e = go (ltb d n) refl e
-  where
-    go : (b : Bool) → ltb d n ≡ b → Go c ≡ cond b (Go d) Stop → c < n
-    go true a q = let p : c ≡ d = cc in subst (λ (i : ℕ). i < n) (sym p) (ltb-true _ _ a)
-    go false a q = absurd (go_stop q)
+split_low n s (Branch d) e = branch_low n d e
 split_low n s (Tile u) {c} e = go (is_finite u) e
   where
-    go : (b : Bool) → Go c ≡ cond b (grow_r n s) Stop → c < n
+    go : (b : Bool) → Some c ≡ cond b (grow_r n s) None → c < n
     go true q = grow_low n s q
-    go false q = absurd (go_stop q)
-split_low n s (Hidden u) e = absurd (go_stop e)
+    go false q = absurd cc
+split_low n s (Hidden u) e = absurd cc
 
 -- ---- the whole remove: at the slot, onward, and back
 abbrev is_branch : Slot → Bool
@@ -160,24 +152,24 @@ is_branch (Tile u) = false
 is_branch (Hidden u) = false
 
 -- `go` goes on in the cell that was found, which is shut on the way back where it was there before
-abbrev round : (St → St) → (ℕ → St → St) → Bool → Below → St → St
-round shut go old (Go c) s = cond old (shut (go (8 + c) s)) (go (8 + c) s)
-round shut go old Stop s = s
+abbrev round : (St → St) → (ℕ → St → St) → Bool → Option ℕ → St → St
+round shut go old (Some c) s = cond old (shut (go (8 + c) s)) (go (8 + c) s)
+round shut go old None s = s
 
-grow_round : (shut : St → St) (go : ℕ → St → St) (r : Below) (s : St) → onward go r s ≡ round shut go false r s
-grow_round shut go (Go c) s = refl
-grow_round shut go Stop s = refl
+grow_round : (shut : St → St) (go : ℕ → St → St) (r : Option ℕ) (s : St) → onward go r s ≡ round shut go false r s
+grow_round shut go (Some c) s = refl
+grow_round shut go None s = refl
 
 split_is : (bs : List ℕ) (go : ℕ → St → St) (n x k : ℕ) (s : St) (t : Slot) → remove_at bs go n x k s t ≡ round (shut_m bs n x k) go (is_branch t) (split_r n s t) (split_s n x k s t)
 unfolding split_r split_s
 split_is bs go n x k s (Branch c) = by (ltb c n)
   where
-    by : (b : Bool) → cond b (shut_m bs n x k (go (8 + c) s)) s ≡ round (shut_m bs n x k) go true (cond b (Go c) Stop) s
+    by : (b : Bool) → cond b (shut_m bs n x k (go (8 + c) s)) s ≡ round (shut_m bs n x k) go true (cond b (Some c) None) s
     by true = refl
     by false = refl
 split_is bs go n x k s (Tile u) = by (is_finite u)
   where
-    by : (b : Bool) → cond b (grown_m go n x k u true s) s ≡ round (shut_m bs n x k) go false (cond b (grow_r n s) Stop) (cond b (grow_s n x k u true s) s)
+    by : (b : Bool) → cond b (grown_m go n x k u true s) s ≡ round (shut_m bs n x k) go false (cond b (grow_r n s) None) (cond b (grow_s n x k u true s) s)
     by true = grow_is go n x k u true s ∙ grow_round (shut_m bs n x k) go (grow_r n s) (grow_s n x k u true s)
     by false = refl
 split_is bs go n x k s (Hidden u) = refl
@@ -210,16 +202,16 @@ module _ (n l : ℕ) (p : Point) (x : ℕ) (s : St) {k : ℕ} (e : k ≡ slot_of
     abbrev below_it : ℕ → St → St
     below_it = remove_m (branching (l - 1)) (below (l - 1)) n p
 
-    whole : {r : Below} {s' : St} {old : Bool} → Parted n x k s t r s' → old ≡ s.kid x k → round (shut_m (below (l - 1)) n x k) below_it old r s' ≡ remove_m (branching l) (below l) n p x s
+    whole : {r : Option ℕ} {s' : St} {old : Bool} → Parted n x k s t r s' → old ≡ s.kid x k → round (shut_m (below (l - 1)) n x k) below_it old r s' ≡ remove_m (branching l) (below l) n p x s
     whole d o =
         (λ i. round (shut_m (below (l - 1)) n x k) below_it ((o ∙ sym (ap is_branch q ∙ branch_is s l x k h)) i) (d.0 i) (d.1 i))
         ∙ sym (remove_up n l p x s h ∙ ap (λ (j : ℕ). remove_at (below (l - 1)) below_it n x j s (view_s (below l) s x j)) (sym e)
         ∙ ap (remove_at (below (l - 1)) below_it n x k s) (sym q) ∙ split_is (below (l - 1)) below_it n x k s t)
 
-    pub remove_stop : {s' : St} → Parted n x k s t Stop s' → s' ≡ remove_m (branching l) (below l) n p x s
+    pub remove_stop : {s' : St} → Parted n x k s t None s' → s' ≡ remove_m (branching l) (below l) n p x s
     remove_stop d = whole d refl
 
-    module _ {c : ℕ} {s' s'' : St} (d : Parted n x k s t (Go c) s') (f : s'' ≡ remove_m (branching (l - 1)) (below (l - 1)) n p (8 + c) s') {old : Bool} (o : old ≡ s.kid x k) where
+    module _ {c : ℕ} {s' s'' : St} (d : Parted n x k s t (Some c) s') (f : s'' ≡ remove_m (branching (l - 1)) (below (l - 1)) n p (8 + c) s') {old : Bool} (o : old ≡ s.kid x k) where
       pub remove_new : old ≡ false → s'' ≡ remove_m (branching l) (below l) n p x s
       remove_new z = f ∙ whole d (sym z ∙ o)
 

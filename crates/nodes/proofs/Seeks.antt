@@ -1,4 +1,4 @@
--- The walk that changes nothing: where it ends, and the number of that. Assumes nothing.
+-- The walk that changes nothing: where it ends, and how that is told. Assumes nothing.
 use mathlib.Core.Path.{◌≡◌, refl, sym, ap, ◌∙◌, subst}
 use mathlib.Core.Bool.{Bool, true, false, cond, not, ◌&&◌, and_comm}
 use mathlib.Core.Logic.{inl, inr}
@@ -18,11 +18,15 @@ use Rattle.grid.specs.Node.{size}
 use Rattle.grid.proofs.Geometry.{slot_lt}
 use Rattle.nodes.specs.State.{St}
 use Rattle.nodes.specs.Layout.{st, word_of}
-use Rattle.nodes.specs.Place.{Place, at, nowhere, path_of, lead_by, lead_s, place_s, end_at, packed, Lies}
+use Rattle.nodes.specs.Place.{Place, at, nowhere, path_of, lead_by, lead_s, place_s, end_at, told_end, Lies}
+use Rattle.nodes.specs.declared.seek.Lead.{Lead}
+use Rattle.nodes.specs.declared.seek.Lead.TheVariants.{Cell, Here, Broken}
+use Rattle.nodes.specs.declared.seek.End.{End}
+use Rattle.std.specs.Prelude.{Option, Some, None}
 use Rattle.nodes.specs.Range.{In, Stands}
 use Rattle.nodes.specs.Walk.{branching, below, Reach, broken, reach_at, reach_s}
 use Rattle.nodes.proofs.Paths.{below_length, one_less, slot_in, stands_below}
-use Rattle.nodes.proofs.Places.{word_top, word_cell, word_lt, wide_top}
+use Rattle.nodes.proofs.Places.{word_top, word_cell, wide_top}
 use Rattle.nodes.proofs.States.{st_slot, st_kid, st_val}
 
 -- ---- a word has bit k exactly if it and the weight of that bit have a bit in common
@@ -84,63 +88,78 @@ module _ (slots masks book : List ℕ) {n x j i : ℕ} (m : In n x j) (e : i ≡
   word_here = st_slot slots masks book m ∙ ap (λ (k : ℕ). get_or slots k 0) (sym e)
 
   module _ {b : Bool} (p : b ≡ bit_of masks i) where
-    pub lead_none : b ≡ false → n ≡ lead_s n (st n slots masks book) x j
+    pub lead_none : b ≡ false → Here ≡ lead_s n (st n slots masks book) x j
     lead_none q = sym (rw (kid_here p q) refl)
 
     module _ (q : b ≡ true) {h : ℕ} {a : Bool} (f : h ≡ 64 * (64 + n) + i) (r : a ≡ bit_of masks h) where
-      pub lead_both : a ≡ true → n + 1 ≡ lead_s n (st n slots masks book) x j
+      pub lead_both : a ≡ true → Broken ≡ lead_s n (st n slots masks book) x j
       lead_both t = sym (rw (kid_here p q, val_here f r t) refl)
 
-      pub lead_to : a ≡ false → get_or slots i 0 < n → get_or slots i 0 ≡ lead_s n (st n slots masks book) x j
+      pub lead_to : a ≡ false → get_or slots i 0 < n → Cell (get_or slots i 0) ≡ lead_s n (st n slots masks book) x j
       lead_to t l = sym (rw (kid_here p q, val_here f r t, word_here, lt-ltb (get_or slots i 0) n l) refl)
 
-      pub lead_out : a ≡ false → n ≤ get_or slots i 0 → n + 1 ≡ lead_s n (st n slots masks book) x j
+      pub lead_out : a ≡ false → n ≤ get_or slots i 0 → Broken ≡ lead_s n (st n slots masks book) x j
       lead_out t l = sym (rw (kid_here p q, val_here f r t, word_here, le-ltb (get_or slots i 0) n l) refl)
 
--- ---- where the walk ends, by where the slot leads
-by_lead : (P : Place → Type 0) (go : ℕ → Place) (e : Place) (n d w : ℕ) (b a : Bool) → d ≡ lead_by n b a w → (d < n → P (go d)) → (d ≡ n → P e) → (n < d → P nowhere)
-    → P (cond b (cond a nowhere (cond (ltb w n) (go w) nowhere)) e)
-by_lead P go e n d w true true f p q r = r (omega arith)
-by_lead P go e n d w true false f p q r = at_word (ltb w n) refl f
+-- a cell to which a slot leads is one of the pool
+pub lead_in : (n : ℕ) (s : St) (x k : ℕ) {c : ℕ} → Cell c ≡ lead_s n s x k → c < n
+lead_in n s x k {c} = go (s.kid x k) (s.val x k) (ltb (s.slot x k) n) refl
   where
-    at_word : (c : Bool) → ltb w n ≡ c → d ≡ cond c w (n + 1) → P (cond c (go w) nowhere)
-    at_word true h f = subst (λ (i : ℕ). P (go i)) f (p (subst (λ (i : ℕ). i < n) (sym f) (ltb-true w n h)))
-    at_word false h f = r (omega arith)
-by_lead P go e n d w false a f p q r = q f
+    go : (b a t : Bool) → ltb (s.slot x k) n ≡ t → Cell c ≡ cond b (cond a Broken (cond t (Cell (s.slot x k)) Broken)) Here → c < n
+    go true true t g e = cc
+    go true false true g e = let z : c ≡ s.slot x k = cc in omega (arith, z, ltb-true (s.slot x k) n g)
+    go true false false g e = cc
+    go false a t g e = cc
+
+-- ---- where the walk ends, by where the slot leads
+abbrev by_lead : (ℕ → Place) → Place → Lead → Place
+by_lead go e (Cell c) = go c
+by_lead go e Here = e
+by_lead go e Broken = nowhere
+
+by_bits : (go : ℕ → Place) (e : Place) (n w : ℕ) (b a : Bool) → cond b (cond a nowhere (cond (ltb w n) (go w) nowhere)) e ≡ by_lead go e (lead_by n b a w)
+by_bits go e n w true true = refl
+by_bits go e n w true false = at_word (ltb w n)
+  where
+    at_word : (c : Bool) → cond c (go w) nowhere ≡ by_lead go e (cond c (Cell w) Broken)
+    at_word true = refl
+    at_word false = refl
+by_bits go e n w false a = refl
 
 place_up : (n : ℕ) (s : St) (l x : ℕ) (p : Point) → (l ≡ 0 → ⊥) → place_s (branching l) (below l) n s x p
-    ≡ (let k = slot_of (branching l) (below l) p in
-    cond (s.kid x k) (cond (s.val x k) nowhere (cond (ltb (s.slot x k) n) (place_s (branching (l - 1)) (below (l - 1)) n s (8 + s.slot x k) p) nowhere)) (at l x k))
+    ≡ (let k = slot_of (branching l) (below l) p in by_lead (λ c. place_s (branching (l - 1)) (below (l - 1)) n s (8 + c) p) (at l x k) (lead_s n s x k))
 unfolding place_s
 place_up n s zero x p h = absurd (h refl)
 place_up n s (suc l) x p h =
     let k = slot_of (branching (suc l)) (below (suc l)) p in
-    ap (λ (m : ℕ). cond (s.kid x k) (cond (s.val x k) nowhere (cond (ltb (s.slot x k) n) (place_s (branching l) (below l) n s (8 + s.slot x k) p) nowhere)) (at (suc m) x k)) (below_length l)
-    ∙ ap (λ (m : ℕ). cond (s.kid x k) (cond (s.val x k) nowhere (cond (ltb (s.slot x k) n) (place_s (branching m) (below m) n s (8 + s.slot x k) p) nowhere)) (at (suc l) x k)) (sym (one_less l))
+    by_bits (λ c. place_s (branching l) (below l) n s (8 + c) p) (at (suc (length (below l))) x k) n (s.slot x k) (s.kid x k) (s.val x k)
+    ∙ ap (λ (m : ℕ). by_lead (λ c. place_s (branching l) (below l) n s (8 + c) p) (at (suc m) x k) (lead_s n s x k)) (below_length l)
+    ∙ ap (λ (m : ℕ). by_lead (λ c. place_s (branching m) (below m) n s (8 + c) p) (at (suc l) x k) (lead_s n s x k)) (sym (one_less l))
 
-pub place_by : (P : Place → Type 0) (n : ℕ) (s : St) (l x : ℕ) (p : Point) {k d : ℕ} → k ≡ slot_of (branching l) (below l) p → (l ≡ 0 → ⊥) → d ≡ lead_s n s x k
-    → (d < n → P (place_s (branching (l - 1)) (below (l - 1)) n s (8 + d) p)) → (d ≡ n → P (at l x k)) → (n < d → P nowhere) → P (place_s (branching l) (below l) n s x p)
-place_by P n s l x p {k} {d} e h f go end out =
-    subst P (sym (place_up n s l x p h))
-    (subst (λ (j : ℕ). P (cond (s.kid x j) (cond (s.val x j) nowhere (cond (ltb (s.slot x j) n) (place_s (branching (l - 1)) (below (l - 1)) n s (8 + s.slot x j) p) nowhere)) (at l x j))) e
-    (by_lead P (λ c. place_s (branching (l - 1)) (below (l - 1)) n s (8 + c) p) (at l x k) n d (s.slot x k) (s.kid x k) (s.val x k) f go end out))
+-- what the code tells of the end
+module _ (n : ℕ) (s : St) (l x : ℕ) (p : Point) {k : ℕ} (e : k ≡ slot_of (branching l) (below l) p) where
+  module _ (h : l ≡ 0 → ⊥) where
+    told_by : {d : Lead} → d ≡ lead_s n s x k → told_end (by_lead (λ c. place_s (branching (l - 1)) (below (l - 1)) n s (8 + c) p) (at l x k) d) ≡ told_end (place_s (branching l) (below l) n s x p)
+    told_by f =
+        ap (λ (d : Lead). told_end (by_lead (λ c. place_s (branching (l - 1)) (below (l - 1)) n s (8 + c) p) (at l x k) d)) f
+        ∙ ap (λ (j : ℕ). told_end (by_lead (λ c. place_s (branching (l - 1)) (below (l - 1)) n s (8 + c) p) (at l x j) (lead_s n s x j))) e
+        ∙ sym (ap told_end (place_up n s l x p h))
 
--- the number of the answer r
-module _ (n : ℕ) (s : St) (l x : ℕ) (p : Point) {k d r : ℕ} (e : k ≡ slot_of (branching l) (below l) p) (h : l ≡ 0 → ⊥) (f : d ≡ lead_s n s x k) where
-  pub place_go : d < n → r ≡ packed (place_s (branching (l - 1)) (below (l - 1)) n s (8 + d) p) → r ≡ packed (place_s (branching l) (below l) n s x p)
-  place_go i g = place_by (λ q. r ≡ packed q) n s l x p e h f (λ j. g) (λ j. absurd (omega (arith, i, j))) (λ j. absurd (omega (arith, i, j)))
+    pub told_go : {c : ℕ} {r : Option End} → Cell c ≡ lead_s n s x k → r ≡ told_end (place_s (branching (l - 1)) (below (l - 1)) n s (8 + c) p) → r ≡ told_end (place_s (branching l) (below l) n s x p)
+    told_go f g = g ∙ told_by f
 
-  pub place_end : d ≡ n → r ≡ word_of x k + 0x100_0000 * (l + 1) → r ≡ packed (place_s (branching l) (below l) n s x p)
-  place_end i g = place_by (λ q. r ≡ packed q) n s l x p e h f (λ j. absurd (omega (arith, i, j))) (λ j. g) (λ j. absurd (omega (arith, i, j)))
+    pub told_here : {i : ℕ} → Here ≡ lead_s n s x k → i ≡ word_of x k → Some (record { level = l; place = i }) ≡ told_end (place_s (branching l) (below l) n s x p)
+    told_here f g = ap (λ (i : ℕ). Some (record { level = l; place = i })) g ∙ told_by f
 
-  pub place_out : n ≤ d → (d ≡ n → ⊥) → r ≡ 0 → r ≡ packed (place_s (branching l) (below l) n s x p)
-  place_out i j g = place_by (λ q. r ≡ packed q) n s l x p e h f (λ k. absurd (omega (arith, i, k))) (λ k. absurd (j k)) (λ k. g)
+    pub told_out : Broken ≡ lead_s n s x k → None ≡ told_end (place_s (branching l) (below l) n s x p)
+    told_out f = told_by f
 
-pub place_leaf : (n : ℕ) (s : St) (l x : ℕ) (p : Point) {k r : ℕ} → k ≡ slot_of (branching l) (below l) p → l ≡ 0 → r ≡ word_of x k + 0x100_0000 * 1
-    → r ≡ packed (place_s (branching l) (below l) n s x p)
-unfolding place_s
-place_leaf n s l x p {k} {r} e z g =
-    subst (λ (m : ℕ). k ≡ slot_of (branching m) (below m) p → r ≡ packed (place_s (branching m) (below m) n s x p)) (sym z) (λ e. g ∙ ap (λ (j : ℕ). word_of x j + 0x100_0000 * 1) e) e
+  pub told_leaf : {i : ℕ} → l ≡ 0 → i ≡ word_of x k → Some (record { level = l; place = i }) ≡ told_end (place_s (branching l) (below l) n s x p)
+  unfolding place_s
+  told_leaf z g =
+      ap (λ (i : ℕ). Some (record { level = l; place = i })) g
+      ∙ subst (λ (m : ℕ). k ≡ slot_of (branching m) (below m) p → Some (record { level = m; place = word_of x k }) ≡ told_end (place_s (branching m) (below m) n s x p)) (sym z)
+      (λ e. ap (λ (j : ℕ). Some (record { level = 0; place = word_of x j })) e) e
 
 -- the words of a cell and of a top, by mask words
 pub cell_word : (c k : ℕ) → 64 * (64 + c) + k ≡ word_of (8 + c) k
@@ -157,12 +176,17 @@ pub place_lies : (n : ℕ) (s : St) (p : Point) (l x : ℕ) → Stands n l x →
 unfolding place_s
 place_lies n s p zero x h = (h, slot_in p h refl)
 place_lies n s p (suc l) x h =
-    let e : (suc l ≡ 0 → ⊥) = λ z. omega arith in
-    place_by (Lies n) n s (suc l) x p refl e refl
-    (λ i. subst (λ (m : ℕ). Lies n (place_s (branching m) (below m) n s (8 + lead_s n s x (slot_of (branching (suc l)) (below (suc l)) p)) p)) (sym (one_less l))
-    (place_lies n s p l (8 + lead_s n s x (slot_of (branching (suc l)) (below (suc l)) p))
-    (subst (λ (m : ℕ). Stands n m (8 + lead_s n s x (slot_of (branching (suc l)) (below (suc l)) p))) (one_less l) (stands_below h e _ i))))
-    (λ i. (h, slot_in p h refl)) (λ i. tt)
+    let k = slot_of (branching (suc l)) (below (suc l)) p in
+    subst (Lies n) (sym (place_up n s (suc l) x p up)) (go (λ c m. place_lies n s p l (8 + c) (subst (λ (m : ℕ). Stands n m (8 + c)) (one_less l) (stands_below h up c m))) (lead_s n s x k) refl)
+  where
+    up : suc l ≡ 0 → ⊥
+    up z = omega arith
+
+    go : ((c : ℕ) → c < n → Lies n (place_s (branching l) (below l) n s (8 + c) p)) → (d : Lead) → d ≡ lead_s n s x (slot_of (branching (suc l)) (below (suc l)) p)
+        → Lies n (by_lead (λ c. place_s (branching (suc l - 1)) (below (suc l - 1)) n s (8 + c) p) (at (suc l) x (slot_of (branching (suc l)) (below (suc l)) p)) d)
+    go rest (Cell c) f = subst (λ (m : ℕ). Lies n (place_s (branching m) (below m) n s (8 + c) p)) (sym (one_less l)) (rest c (lead_in n s x _ f))
+    go rest Here f = (h, slot_in p h refl)
+    go rest Broken f = tt
 
 pub reach_place : (b : ℕ) (bs : List ℕ) (n : ℕ) (s : St) (x : ℕ) (p : Point) → reach_s b bs n s x p ≡ end_at s (place_s b bs n s x p)
 unfolding reach_s place_s
@@ -178,10 +202,9 @@ reach_place b (c ∷ bs) n s x p =
     by k true false false i f = refl
     by k false v w i f = refl
 
--- ---- what the number of an end tells: with the slot's level, its node and itself given back from it
-pub ends_at : {n r : ℕ} (q : Place) → n < 65536 → Lies n q → r ≡ packed q → (r ≡ 0 → ⊥) → (l x k : ℕ) × (q ≡ at l x k) × (Stands n l x) × (In n x k) × (r % 0x100_0000 ≡ word_of x k)
-    × (r / 0x100_0000 ≡ l + 1)
-ends_at (at l x k) m h e z =
-    let w = word_lt h.1 in
-    (l, x, k, refl, h.0, h.1, omega (arith, w), omega (arith, w))
-ends_at nowhere m h e z = absurd (z e)
+-- ---- what is told of an end: the slot's level and place are given back from it
+pub ends_at : {n : ℕ} {r : End} (q : Place) → Lies n q → Some r ≡ told_end q → (x k : ℕ) × (q ≡ at r.level x k) × (Stands n r.level x) × (In n x k) × (r.place ≡ word_of x k)
+ends_at {n} {r} (at l x k) h e =
+    let z : r ≡ record { level = l; place = word_of x k } = cc in
+    (x, k, ap (λ (e : End). at e.level x k) (sym z), subst (λ (e : End). Stands n e.level x) (sym z) h.0, h.1, ap (λ (e : End). e.place) z)
+ends_at nowhere h e = cc

@@ -37,8 +37,8 @@ cells_of z = record { most = z.most; slots_fit = z.slots_fit; masks_fit = z.mask
 pub booked_of : {n : ℕ} {slots masks book : List ℕ} → Sized n slots masks book → Booked n book
 booked_of z = record { most = z.most; book_fit = z.book_fit }
 
-pub sized_kept : {n : ℕ} {a d e a' d' e' : List ℕ} → Sized n a d e → length a' ≡ length a → length d' ≡ length d → length e' ≡ length e → Sized n a' d' e'
-sized_kept z p q r = record { most = z.most; slots_fit = p ∙ z.slots_fit; masks_fit = q ∙ z.masks_fit; book_fit = r ∙ z.book_fit }
+pub masked_of : {n : ℕ} {slots masks book : List ℕ} → Sized n slots masks book → Masked n masks
+masked_of z = record { most = z.most; masks_fit = z.masks_fit }
 
 pub cells_kept : {n : ℕ} {a d e a' d' : List ℕ} → Sized n a d e → length a' ≡ length a → length d' ≡ length d → Cells n a' d'
 cells_kept z p q = record { most = z.most; slots_fit = p ∙ z.slots_fit; masks_fit = q ∙ z.masks_fit }

@@ -1,54 +1,68 @@
 -- The slot of a voxel's number at each level, and the low 7 bits of a signed coordinate. Assumes nothing.
-use mathlib.Core.Path.{◌≡◌, sym, subst}
-use mathlib.Core.List.{[], ◌∷◌}
-use Prim.Native.Nat.{ℕ, suc, ◌+◌, ◌*◌, ◌/◌, ◌%◌}
+use mathlib.Core.Path.{◌≡◌, ap, ◌∙◌}
+use Prim.Native.Nat.{ℕ, zero, suc, ◌+◌, ◌-◌, ◌*◌, ◌/◌, ◌%◌, ◌^◌, ◌<◌, ◌≤◌}
 use native.Mathlib.Omega.{arith}
-use borrow.Author.Tests.{le-ltb}
-use lib.Dec.{T}
-use lib.IntN.{ℤ, pos, negsuc, ◌+ℤ◌, nat_abs}
-use lib.Signed.{non_neg}
-use mir.Syntax.{w32, w64}
-use mir.Val.{SFits, Fits}
+use lib.IntN.{ℤ, pos, negsuc}
+use mir.Syntax.{w32}
+use mir.Val.{SFits, of_z}
+use Rattle.std.proofs.Math.Pow.{pow_mono}
+use Rattle.std.proofs.lemmas.Nat.{pow_pos}
 use Rattle.grid.specs.Geometry.{masked, total, part, slot_of}
+use Rattle.grid.specs.Node.{size}
 use Rattle.nodes.specs.Walk.{branching, below, point_of}
+use Rattle.nodes.specs.Level.{IsLevel}
 
 -- ---- the three levels, by the digits of the voxel's number
-pub same_digits : (a b : ℕ) {x x' y y' z z' : ℕ} → x ≡ x' → y ≡ y' → z ≡ z' → x * a + y * b + z ≡ x' * a + y' * b + z'
-same_digits a b p q r = λ i. p i * a + q i * b + r i
+-- what holds of each level's constants holds of any's
+pub by_level : (P : ℕ → ℕ → ℕ → ℕ → Type 0) → P 2 3 512 7 → P 1 2 64 4 → P 0 2 64 2 → (l : ℕ) {b m t : ℕ} → IsLevel l b m t → P l b m t
+unfolding size total
+by_level P p q r zero h = rw (h.branches, h.sized, h.totals) r
+by_level P p q r (suc zero) h = rw (h.branches, h.sized, h.totals) q
+by_level P p q r (suc (suc zero)) h = rw (h.branches, h.sized, h.totals) p
+by_level P p q r (suc (suc (suc l))) h = absurd (omega (arith, h.known))
 
-pub top_slot : (v : ℕ) → v / 262144 % 8 * 64 + v / 2048 % 8 * 8 + v / 16 % 8 ≡ slot_of 3 (2 ∷ 2 ∷ []) (point_of v)
-unfolding slot_of part total masked
-top_slot v = same_digits 64 8 (omega arith) (omega arith) (omega arith)
+-- a shift of 1
+pub one_left : (k : ℕ) → k ≤ 7 → 1 * 2 ^ k % 18446744073709551616 ≡ 2 ^ k
+one_left k h = omega (arith, pow_mono h)
 
-pub middle_slot : (v : ℕ) → v / 65536 % 4 * 16 + v / 512 % 4 * 4 + v / 4 % 4 ≡ slot_of 2 (2 ∷ []) (point_of v)
-unfolding slot_of part total masked
-middle_slot v = same_digits 16 4 (omega arith) (omega arith) (omega arith)
+pub one_left_some : (k : ℕ) → k ≤ 7 → 0 < 1 * 2 ^ k % 18446744073709551616
+one_left_some k h = rw (one_left k h) (pow_pos k)
 
-pub leaf_slot : (v : ℕ) → v / 16384 % 4 * 16 + v / 128 % 4 * 4 + v % 4 ≡ slot_of 2 [] (point_of v)
-unfolding slot_of part total masked
-leaf_slot v = same_digits 16 4 (omega arith) (omega arith) (omega arith)
+-- what the law of a level says of its constants
+module _ {l b m t : ℕ} (h : IsLevel l b m t) where
+  pub few : (b ≤ t) × (t ≤ 7) × (m ≤ 512)
+  few = by_level (λ l b m t. (b ≤ t) × (t ≤ 7) × (m ≤ 512)) (omega arith, omega arith, omega arith) (omega arith, omega arith, omega arith) (omega arith, omega arith, omega arith) l h
 
--- what a level's own function answers, at the level's number
-pub at_level : (v m : ℕ) {l r : ℕ} → l ≡ m → r ≡ slot_of (branching m) (below m) (point_of v) → r ≡ slot_of (branching l) (below l) (point_of v)
-at_level v m {l} {r} e h = subst (λ (i : ℕ). r ≡ slot_of (branching i) (below i) (point_of v)) (sym e) h
+  -- the digit of the coordinate x, by the constants that the code has read
+  pub digit_is : (x : ℕ) {b' t' t'' : ℕ} → t' ≡ t → t'' ≡ t → b' ≡ b → x % (1 * 2 ^ t' % 18446744073709551616) / 2 ^ (t'' - b') ≡ part b (t - b) (pos x)
+  unfolding part masked
+  digit_is x p q r =
+      let e : t ≡ b + (t - b) = omega (arith, few) in
+      λ i. x % (ap (λ (k : ℕ). 1 * 2 ^ k % 18446744073709551616) p ∙ one_left t few.1 ∙ ap (λ (k : ℕ). 2 ^ k) e) i / 2 ^ (q i - r i)
 
--- ---- a 32-bit signed number plus 2 ^ 31, by its sign: no number below 0, and 2 ^ 31 is a multiple of 128
-pub wider : (z : ℤ) → SFits w32 z → SFits w64 z
-wider z h = record { sfits = omega (arith, h.sfits) }
+  -- the slot by its digits, on the way to which no number is large
+  module _ (v : ℕ) {k x y z : ℕ} (e : k ≡ b) (ex : x ≡ part b (t - b) (pos (v / 16384))) (ey : y ≡ part b (t - b) (pos (v / 128))) (ez : z ≡ part b (t - b) (pos v)) where
+    side : 1 * 2 ^ k % 18446744073709551616 ≡ 2 ^ b
+    side = ap (λ (i : ℕ). 1 * 2 ^ i % 18446744073709551616) e ∙ one_left b (omega (arith, few))
 
-pub sum_fits : (z : ℤ) → SFits w32 z → SFits w64 (z +ℤ pos 2147483648)
-sum_fits (pos n) h = record { sfits = omega (arith, h.sfits) }
-sum_fits (negsuc n) h = rw (le-ltb 2147483648 (suc n) (omega (arith, h.sfits))) (record { sfits = omega arith })
+    abbrev SlotLow : (m s x y z : ℕ) → Type 0
+    SlotLow m s x y z = (x * s < m) × (x * s + y < m) × ((x * s + y) * s < m) × ((x * s + y) * s + z < m)
 
-pub sum_up : (z : ℤ) → SFits w32 z → T (non_neg (z +ℤ pos 2147483648))
-sum_up (pos n) h = tt
-sum_up (negsuc n) h = rw (le-ltb 2147483648 (suc n) (omega (arith, h.sfits))) tt
+    pub slot_low : SlotLow m (1 * 2 ^ k % 18446744073709551616) x y z
+    unfolding part masked
+    slot_low =
+        rw (side, ex, ey, ez) (by_level (λ l b m t. SlotLow m (2 ^ b) (part b (t - b) (pos (v / 16384))) (part b (t - b) (pos (v / 128))) (part b (t - b) (pos v)))
+        (omega arith, omega arith, omega arith, omega arith) (omega arith, omega arith, omega arith, omega arith) (omega arith, omega arith, omega arith, omega arith) l h)
 
-pub sum_word : (z : ℤ) → SFits w32 z → Fits w64 (nat_abs (z +ℤ pos 2147483648))
-sum_word (pos n) h = record { fits = omega (arith, h.sfits) }
-sum_word (negsuc n) h = rw (le-ltb 2147483648 (suc n) (omega (arith, h.sfits))) (record { fits = omega arith })
+    pub slot_is : (x * (1 * 2 ^ k % 18446744073709551616) + y) * (1 * 2 ^ k % 18446744073709551616) + z ≡ slot_of (branching l) (below l) (point_of v)
+    unfolding slot_of part total masked
+    slot_is =
+        rw (side, ex, ey, ez)
+        (by_level (λ l b m t. (part b (t - b) (pos (v / 16384)) * 2 ^ b + part b (t - b) (pos (v / 128))) * 2 ^ b + part b (t - b) (pos v) ≡ slot_of (branching l) (below l) (point_of v))
+        (omega arith) (omega arith) (omega arith) l h)
 
-pub sum_low : (z : ℤ) → SFits w32 z → nat_abs (z +ℤ pos 2147483648) % 128 ≡ masked 7 z
+-- ---- the low 7 bits of a 32-bit signed number: 2 ^ 32 is a multiple of 128
+pub low_is : (z : ℤ) → SFits w32 z → of_z w32 z % 128 ≡ masked 7 z
 unfolding masked
-sum_low (pos n) h = omega arith
-sum_low (negsuc n) h = rw (le-ltb 2147483648 (suc n) (omega (arith, h.sfits))) (omega (arith, h.sfits))
+low_is (pos n) h = omega arith
+low_is (negsuc n) h = omega (arith, h.sfits)

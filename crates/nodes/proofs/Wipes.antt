@@ -1,13 +1,14 @@
 -- A node wiped, by what the code does at each slot, and a cell as one piece. Assumes nothing.
+use Rattle.std.specs.Prelude.{Option, Some, None}
 use mathlib.Core.Path.{◌≡◌, refl, sym, ap, ap₂, ◌∙◌, subst}
 use mathlib.Core.Logic.{inl, inr}
-use mathlib.Core.Bool.{Bool, true, false, not, cond, ◌&&◌}
-use mathlib.Core.List.{List, [], ◌∷◌}
+use mathlib.Core.Bool.{Bool, true, false, cond, ◌&&◌}
+use mathlib.Core.List.{[], ◌∷◌}
 use Prim.Native.Nat.{ℕ, zero, suc, ◌+◌, ◌*◌, ◌<◌, ◌≤◌}
 use native.Mathlib.Omega.{arith}
 use lib.ListN.{get_or}
 use lib.Dec.{ltb, eqb}
-use borrow.Author.Tests.{lt-ltb, le-ltb, eq-eqb, ne_eqb, not-true, not-false}
+use borrow.Author.Tests.{lt-ltb, le-ltb, eq-eqb, ne_eqb}
 use Rattle.bitset.specs.Set.{bit_of, word_bit}
 use Rattle.bitset.proofs.Digits.{lt_or_le, is_or_not}
 use Rattle.bitset.proofs.Words.{zero_bit}
@@ -16,10 +17,13 @@ use Rattle.bitset.proofs.First.{Leads, less, less_off, less_other}
 use Rattle.floats.specs.Value.{far}
 use Rattle.grid.specs.Node.{size}
 use Rattle.nodes.specs.State.{St}
-use Rattle.nodes.specs.Layout.{st, word_of}
+use Rattle.nodes.specs.declared.pool.Pool.{Pool}
+use Rattle.nodes.specs.Layout.{word_of}
+use Rattle.nodes.specs.Pool.{state}
 use Rattle.nodes.specs.Change.{at2, release_s}
 use Rattle.nodes.specs.Steps.{slot_s, cell_s, give_s, room_s}
 use Rattle.nodes.specs.Each.{each_s}
+use Rattle.nodes.specs.Walk.{child_r}
 use Rattle.nodes.specs.Wipe.{drop_m, shed_m, wipe_at, wipe_m, emptied_m, empty_m, return_s, unlink_s}
 use Rattle.nodes.proofs.Places.{cell_in, cell_word}
 use Rattle.nodes.proofs.States.{st_slot, st_kid}
@@ -140,7 +144,7 @@ middle_by n c s p f q = q ∙ ap₂ (λ (w : ℕ) (r : St). cell_s c w false r) 
 
 -- ---- its links, one after the other: a step at the slots whose bits are on in a word
 module _ (f : ℕ → St → St) where
-  abbrev pub some_s : ℕ → ℕ → St → St
+  abbrev some_s : ℕ → ℕ → St → St
   some_s w k s = cond (word_bit w k) (f k s) s
 
   some_none : (w m : ℕ) (s : St) → ((k : ℕ) → k < m → word_bit w k ≡ false) → each_s (some_s w) m s ≡ s
@@ -153,7 +157,7 @@ module _ (f : ℕ → St → St) where
 
   -- the first of them done, the others are left
   module _ {w i : ℕ} (d : Leads w i) (s : St) where
-    pub some_first : (m : ℕ) → m ≤ 64 → i < m → each_s (some_s w) m s ≡ each_s (some_s (less w i)) m (f i s)
+    some_first : (m : ℕ) → m ≤ 64 → i < m → each_s (some_s w) m s ≡ each_s (some_s (less w i)) m (f i s)
     unfolding each_s
     some_first zero h l = absurd (omega arith)
     some_first (suc m) h l = elim (is_or_not i m) [
@@ -168,7 +172,7 @@ module _ (f : ℕ → St → St) where
 
 -- a cell is given back at each
 module _ (n x : ℕ) where
-  abbrev pub return_at : ℕ → St → St
+  abbrev return_at : ℕ → St → St
   return_at k s = return_s n (s.slot x k) s
 
   unlink_kid : (k : ℕ) (s : St) → (unlink_s n x k s).kid ≡ s.kid
@@ -192,21 +196,27 @@ module _ (n x : ℕ) where
       let r : St = each_s (unlink_s n x) m s in
       ap (some_s return_at w m) (some_linked w s h m (omega arith)) ∙ ap (λ (b : Bool). cond b (return_at m r) r) (h m (omega arith) ∙ ap (λ (f : ℕ → ℕ → Bool). f x m) (sym (kids_stay m s)))
 
--- the child bits of cell c are one word: of its links, those with a bit in w are left
-module _ (sl mk : List ℕ) {n c : ℕ} (h : c < n) where
-  abbrev pub links_left : ℕ → List ℕ → St
-  links_left w book = each_s (some_s (return_at n (8 + c)) w) 64 (st n sl mk book)
+-- of the links of cell c, those with a bit in w are left
+abbrev pub links_left : ℕ → ℕ → ℕ → St → St
+links_left n c w = each_s (some_s (return_at n (8 + c)) w) 64
 
-  pub links_all : (book : List ℕ) → links_left (get_or mk (64 + c) 0) book ≡ each_s (unlink_s n (8 + c)) 64 (st n sl mk book)
-  links_all book = some_linked n (8 + c) (get_or mk (64 + c) 0) (st n sl mk book)
-      (λ k l. has_own mk (64 + c) k l ∙ ap (bit_of mk) (sym (cell_word c k)) ∙ sym (st_kid sl mk book (cell_in h (8 + c) k refl l))) 64 (omega arith)
+-- the child bits of a cell are one word
+module _ (p : Pool) {c : ℕ} (h : c < p.n) where
+  pub links_all : links_left p.n c (get_or p.masks.now (64 + c) 0) (state p) ≡ each_s (unlink_s p.n (8 + c)) 64 (state p)
+  unfolding state
+  links_all = some_linked p.n (8 + c) (get_or p.masks.now (64 + c) 0) (state p)
+      (λ k l. has_own p.masks.now (64 + c) k l ∙ ap (bit_of p.masks.now) (sym (cell_word c k)) ∙ sym (st_kid _ _ _ (cell_in h (8 + c) k refl l))) 64 (omega arith)
 
-  pub links_more : {w i : ℕ} (book book' : List ℕ) → Leads w i → st n sl mk book' ≡ return_s n (get_or sl (4096 + 64 * c + i) 0) (st n sl mk book) → links_left (less w i) book' ≡ links_left w book
-  links_more {w} {i} book book' d e =
+  link_at : (i : ℕ) → i < 64 → get_or p.slots.now (4096 + 64 * c + i) 0 ≡ (state p).slot (8 + c) i
+  unfolding state
+  link_at i l =
       let q : 4096 + 64 * c + i ≡ word_of (8 + c) i = omega (arith, cell_word c i) in
-      let at : get_or sl (4096 + 64 * c + i) 0 ≡ (st n sl mk book).slot (8 + c) i = ap (λ (p : ℕ). get_or sl p 0) q ∙ sym (st_slot sl mk book (cell_in h (8 + c) i refl d.within)) in
-      ap (each_s (some_s (return_at n (8 + c)) (less w i)) 64) (e ∙ ap (λ (p : ℕ). return_s n p (st n sl mk book)) at)
-      ∙ sym (some_first (return_at n (8 + c)) d (st n sl mk book) 64 (omega arith) d.within)
+      ap (λ (j : ℕ). get_or p.slots.now j 0) q ∙ sym (st_slot _ _ _ (cell_in h (8 + c) i refl l))
+
+  pub links_more : {n w i : ℕ} {s : St} → p.n ≡ n → Leads w i → s ≡ return_s p.n (get_or p.slots.now (4096 + 64 * c + i) 0) (state p) → links_left n c (less w i) s ≡ links_left n c w (state p)
+  links_more {w = w} {i = i} {s = s} e d q =
+      subst (λ (n : ℕ). links_left n c (less w i) s ≡ links_left n c w (state p)) e
+      (ap (links_left p.n c (less w i)) (q ∙ ap (λ (j : ℕ). return_s p.n j (state p)) (link_at i d.within)) ∙ sym (some_first (return_at p.n (8 + c)) d (state p) 64 (omega arith) d.within))
 
 -- ---- a cell given back, or not
 module _ (n : ℕ) (s : St) {c : ℕ} where
@@ -226,25 +236,26 @@ module _ (n x : ℕ) (s : St) {l : ℕ} where
   unfolding emptied_m
   empty_leaf e = subst (λ (i : ℕ). s ≡ empty_m n i x s) (sym e) refl
 
-  pub empty_middle : l ≡ 1 → {r : St} → r ≡ empty_m n 1 x s → r ≡ empty_m n l x s
-  empty_middle e p = p ∙ ap (λ (i : ℕ). empty_m n i x s) (sym e)
+-- ---- what hangs below a slot, by where it leads
+module _ (go : ℕ → St → St) (n x k : ℕ) (s : St) where
+  abbrev shed_in : Option ℕ → St
+  shed_in (Some c) = drop_m n x k (go (8 + c) s)
+  shed_in None = s
 
--- ---- what hangs below a slot
-module _ (n l x k : ℕ) (s : St) {b : Bool} (e : b ≡ s.kid x k) where
-  pub shed_none : not b ≡ true → s ≡ shed_m (empty_m n l) n x k s
+  shed_is : shed_m go n x k s ≡ shed_in (child_r n s x k)
   unfolding shed_m
-  shed_none h = sym (rw (sym e ∙ not-true b h) refl)
+  shed_is = by (s.kid x k) (ltb (s.slot x k) n)
+    where
+      by : (a b : Bool) → cond a (cond b (drop_m n x k (go (8 + s.slot x k) s)) s) s ≡ shed_in (cond (a && b) (Some (s.slot x k)) None)
+      by true true = refl
+      by true false = refl
+      by false b = refl
 
-  module _ {c : ℕ} (h : not b ≡ false) (d : c ≡ s.slot x k) where
-    pub shed_out : n ≤ c → s ≡ shed_m (empty_m n l) n x k s
-    unfolding shed_m
-    shed_out o = sym (rw (sym e ∙ not-false b h, le-ltb (s.slot x k) n (subst (λ (i : ℕ). n ≤ i) d o)) refl)
+  pub shed_none : None ≡ child_r n s x k → s ≡ shed_m go n x k s
+  shed_none e = ap shed_in e ∙ sym shed_is
 
-    pub shed_by : c < n → {r t : St} → r ≡ empty_m n l (8 + c) s → t ≡ drop_m n x k r → t ≡ shed_m (empty_m n l) n x k s
-    unfolding shed_m
-    shed_by i p q =
-        q ∙ ap (drop_m n x k) (p ∙ ap (λ (j : ℕ). empty_m n l (8 + j) s) d)
-        ∙ sym (rw (sym e ∙ not-false b h, lt-ltb (s.slot x k) n (subst (λ (j : ℕ). j < n) d i)) refl)
+  pub shed_by : {c : ℕ} {r t : St} → Some c ≡ child_r n s x k → r ≡ go (8 + c) s → t ≡ drop_m n x k r → t ≡ shed_m go n x k s
+  shed_by e p q = q ∙ ap (drop_m n x k) p ∙ ap shed_in e ∙ sym shed_is
 
 -- ---- the top of a seat
 module _ (n w : ℕ) (a : Bool) (x : ℕ) (s : St) where

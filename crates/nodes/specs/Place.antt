@@ -1,11 +1,19 @@
--- The slot at which a walk ends, and its number. Assumes nothing.
-use Rattle.std.specs.Prelude.{Bool, cond, List, [], ◌∷◌, ℕ, suc, ◌+◌, ◌*◌, length, ltb}
+-- The slot at which a walk ends, and how the code tells it. Assumes nothing.
+use Rattle.std.specs.Prelude.{Bool, cond, List, [], ◌∷◌, ℕ, suc, ◌+◌, ◌*◌, length, ltb, Option, Some, None}
 use Rattle.grid.specs.Geometry.{Point, slot_of}
 use Rattle.grid.specs.Node.{size}
 use Rattle.nodes.specs.State.{St}
-use Rattle.nodes.specs.Layout.{word_of}
+use Rattle.nodes.specs.Layout.{word_of, st}
 use Rattle.nodes.specs.Range.{In, Stands}
 use Rattle.nodes.specs.Walk.{Reach, broken, reach_at}
+use Rattle.nodes.specs.declared.seek.Lead.{Lead}
+use Rattle.nodes.specs.declared.seek.Lead.TheVariants.{Cell, Here, Broken}
+use Rattle.nodes.specs.declared.seek.End.{End}
+use Rattle.nodes.specs.declared.view.View.{View}
+
+-- the state of the pool that a view shows, with any book
+abbrev pub seen : View → List ℕ → St
+seen v book = st v.n v.slots.now v.masks.now book
 
 -- the slots of a point on its way down, one digit for each level, that of the node itself lowest
 unfoldable pub path_of : (b : ℕ) (bs : List ℕ) → Point → ℕ
@@ -17,11 +25,11 @@ pub data Place : Type 0 where
   at : ℕ → ℕ → ℕ → Place
   nowhere : Place
 
--- where a slot above the leaves leads, by its bits and its word: to a cell below n; to none, n; or it breaks the path
-abbrev pub lead_by : ℕ → Bool → Bool → ℕ → ℕ
-lead_by n b a w = cond b (cond a (n + 1) (cond (ltb w n) w (n + 1))) n
+-- where a slot above the leaves leads, by its bits and its word: to a cell below n; to none; or it breaks the path
+abbrev pub lead_by : ℕ → Bool → Bool → ℕ → Lead
+lead_by n b a w = cond b (cond a Broken (cond (ltb w n) (Cell w) Broken)) Here
 
-abbrev pub lead_s : ℕ → St → ℕ → ℕ → ℕ
+abbrev pub lead_s : ℕ → St → ℕ → ℕ → Lead
 lead_s n s x k = lead_by n (s.kid x k) (s.val x k) (s.slot x k)
 
 -- refusal 5: "on the path walked .. a link leaves the pool, a slot is in both masks"
@@ -38,10 +46,10 @@ abbrev pub end_at : St → Place → Reach
 end_at s (at l x k) = reach_at l s x k
 end_at s nowhere = broken
 
--- its number: the place of the slot's word, and above that the level, from 1 on; 0 is nowhere
-abbrev pub packed : Place → ℕ
-packed (at l x k) = word_of x k + 0x100_0000 * (l + 1)
-packed nowhere = 0
+-- as the code tells it: its level and the place of its word
+abbrev pub told_end : Place → Option End
+told_end (at l x k) = Some (record { level = l; place = word_of x k })
+told_end nowhere = None
 
 -- it is in a pool of n cells
 abbrev pub Lies : ℕ → Place → Type 0

@@ -1,6 +1,6 @@
 -- The walk to a point, on any state, sound or not: over the branching b of a node and those below it, bs, so that the level of the node is the length of bs.
 -- Assumes nothing.
-use Rattle.std.specs.Prelude.{Bool, true, false, not, cond, ◌&&◌, ◌||◌, List, [], ◌∷◌, ℕ, zero, suc, ◌+◌, ◌*◌, ◌/◌, ◌%◌, ℤ, pos, length, ltb, leb}
+use Rattle.std.specs.Prelude.{Bool, true, false, not, cond, ◌&&◌, ◌||◌, List, [], ◌∷◌, ℕ, zero, suc, ◌+◌, ◌*◌, ◌/◌, ◌%◌, ℤ, pos, length, ltb, leb, Option, Some, None}
 use Rattle.floats.specs.Value.{is_finite, equal, far}
 use Rattle.grid.specs.Geometry.{Point, masked, slot_of}
 use Rattle.nodes.specs.State.{St}
@@ -44,6 +44,14 @@ closed_s s x k = cond (s.val x k) (slot.Tile (s.slot x k)) (slot.Hidden (s.slot 
 unfoldable pub view_s : List ℕ → St → ℕ → ℕ → Slot
 view_s [] s x k = closed_s s x k
 view_s (c ∷ bs) s x k = cond (s.kid x k) (slot.Branch (s.slot x k)) (closed_s s x k)
+
+-- slot k of node x above the leaves leads to a cell of the pool
+abbrev pub child_s : ℕ → St → ℕ → ℕ → Bool
+child_s n s x k = s.kid x k && ltb (s.slot x k) n
+
+-- and to which
+abbrev pub child_r : ℕ → St → ℕ → ℕ → Option ℕ
+child_r n s x k = cond (child_s n s x k) (Some (s.slot x k)) None
 
 -- ---- where a walk ends
 

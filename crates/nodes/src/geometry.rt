@@ -1,60 +1,110 @@
 // The three levels of a grid. A voxel comes as its number, x * 2^14 + y * 2^7 + z, with coordinates masked to 7 bits.
-ghost use Rattle.std.specs.Prelude.{◌≡◌, [], ◌∷◌, ◌<◌, ◌≤◌};
-ghost use Rattle.grid.specs.Geometry.{masked, slot_of};
+ghost use Rattle.std.specs.Prelude.{◌≡◌, [], ◌∷◌, ℕ, pos, ◌-◌, ◌<◌, ◌≤◌};
+ghost use Rattle.grid.specs.Geometry.{masked, part, slot_of};
 ghost use Rattle.grid.specs.Node.{size};
+ghost use Rattle.nodes.specs.Level.{IsLevel, top_is, middle_is, leaf_is};
 ghost use Rattle.nodes.specs.Place.{path_of};
 ghost use Rattle.nodes.specs.Walk.{branching, below, point_of, voxel_at, voxels};
 
-// A level's constants are made of the branchings. `size_in` and `voxel` hold them to the meaning: each size is proved, and the total of the top.
-#[derive(Drop)]
+// A level, as the type of its nodes. Its constants are made of the branchings, and the law holds them to the meaning.
+pub trait Level {
+    // How often a node is halved along each axis: so its slots are 2^(3 * BRANCHING).
+    const BRANCHING: usize;
+
+    const SIZE: usize;
+
+    // The same along each axis with all the levels below it.
+    const BRANCHING_TOTAL: usize;
+
+    ghost BRANCHING: { ℕ };
+
+    ghost SIZE: { ℕ };
+
+    ghost BRANCHING_TOTAL: { ℕ };
+
+    // Its number: 2 is the top, 1 a middle node, 0 a leaf.
+    ghost level: { ℕ };
+
+    ghost law: { IsLevel level BRANCHING SIZE BRANCHING_TOTAL };
+
+    // The slot of voxel v.
+    final fn slot(v: usize) -> usize
+        ensures is { result ≡ slot_of (branching level) (below level) (point_of v) }
+        ensures within { result < SIZE }
+    {
+        let side = 1 << Self::BRANCHING;
+        (digit::<Self>(v / LAYER) * side + digit::<Self>(v / SIDE)) * side + digit::<Self>(v)
+    }
+}
+
+// The digit of a coordinate that tells the slots of a level apart: of its bits in the level's total, those that no level below it takes.
+fn digit<L: Level>(c: usize) -> usize
+    ensures { result ≡ part L.BRANCHING (L.BRANCHING_TOTAL - L.BRANCHING) (pos c) }
+{
+    c % (1 << L::BRANCHING_TOTAL) >> (L::BRANCHING_TOTAL - L::BRANCHING)
+}
+
+#[derive(Clone, Copy)]
 pub struct Top;
 
-#[derive(Drop)]
+#[derive(Clone, Copy)]
 pub struct Middle;
 
-#[derive(Drop)]
+#[derive(Clone, Copy)]
 pub struct Leaf;
 
-impl Top {
-    pub const BRANCHING: usize = 3;
+impl Level for Top {
+    const BRANCHING: usize = 3;
 
-    pub const SIZE: usize = 1 << (3 * Self::BRANCHING);
+    const SIZE: usize = 1 << (3 * Self::BRANCHING);
 
-    pub const BRANCHING_TOTAL: usize = Self::BRANCHING + Middle::BRANCHING_TOTAL;
+    const BRANCHING_TOTAL: usize = Self::BRANCHING + Middle::BRANCHING_TOTAL;
 
-    pub fn slot(v: usize) -> usize
-        ensures { (result ≡ slot_of 3 (2 ∷ 2 ∷ []) (point_of v)) × (result < 512) }
-    {
-        v / 0x4_0000 % 8 * 64 + v / 0x800 % 8 * 8 + v / 16 % 8
-    }
+    ghost BRANCHING = { 3 };
+
+    ghost SIZE = { 512 };
+
+    ghost BRANCHING_TOTAL = { 7 };
+
+    ghost level = { 2 };
+
+    ghost law = { top_is };
 }
 
-impl Middle {
-    pub const BRANCHING: usize = 2;
+impl Level for Middle {
+    const BRANCHING: usize = 2;
 
-    pub const SIZE: usize = 1 << (3 * Self::BRANCHING);
+    const SIZE: usize = 1 << (3 * Self::BRANCHING);
 
-    pub const BRANCHING_TOTAL: usize = Self::BRANCHING + Leaf::BRANCHING_TOTAL;
+    const BRANCHING_TOTAL: usize = Self::BRANCHING + Leaf::BRANCHING_TOTAL;
 
-    pub fn slot(v: usize) -> usize
-        ensures { (result ≡ slot_of 2 (2 ∷ []) (point_of v)) × (result < 64) }
-    {
-        v / 0x1_0000 % 4 * 16 + v / 0x200 % 4 * 4 + v / 4 % 4
-    }
+    ghost BRANCHING = { 2 };
+
+    ghost SIZE = { 64 };
+
+    ghost BRANCHING_TOTAL = { 4 };
+
+    ghost level = { 1 };
+
+    ghost law = { middle_is };
 }
 
-impl Leaf {
-    pub const BRANCHING: usize = 2;
+impl Level for Leaf {
+    const BRANCHING: usize = 2;
 
-    pub const SIZE: usize = 1 << (3 * Self::BRANCHING);
+    const SIZE: usize = 1 << (3 * Self::BRANCHING);
 
-    pub const BRANCHING_TOTAL: usize = Self::BRANCHING;
+    const BRANCHING_TOTAL: usize = Self::BRANCHING;
 
-    pub fn slot(v: usize) -> usize
-        ensures { (result ≡ slot_of 2 [] (point_of v)) × (result < 64) }
-    {
-        v / 0x4000 % 4 * 16 + v / 0x80 % 4 * 4 + v % 4
-    }
+    ghost BRANCHING = { 2 };
+
+    ghost SIZE = { 64 };
+
+    ghost BRANCHING_TOTAL = { 2 };
+
+    ghost level = { 0 };
+
+    ghost law = { leaf_is };
 }
 
 // The slot of voxel v at a level: 2 is the top, 1 a middle node, 0 a leaf.
@@ -62,13 +112,11 @@ pub fn slot_in(level: usize, v: usize) -> usize
     requires { level ≤ 2 }
     ensures { result ≡ slot_of (branching level) (below level) (point_of v) }
 {
-    if level == 2 {
-        return Top::slot(v);
+    match level {
+        2 => Top::slot(v),
+        1 => Middle::slot(v),
+        _ => Leaf::slot(v),
     }
-    if level == 1 {
-        return Middle::slot(v);
-    }
-    Leaf::slot(v)
 }
 
 // The slots of a node of a level.
@@ -76,21 +124,18 @@ pub fn size_in(level: usize) -> usize
     requires { level ≤ 2 }
     ensures { result ≡ size (branching level) }
 {
-    if level == 2 {
-        return Top::SIZE;
+    match level {
+        2 => Top::SIZE,
+        1 => Middle::SIZE,
+        _ => Leaf::SIZE,
     }
-    if level == 1 {
-        return Middle::SIZE;
-    }
-    Leaf::SIZE
 }
 
 // The low 7 bits of a signed coordinate: -1 is 127 and 128 is 0.
 fn masked7(x: i32) -> usize
     ensures { (result ≡ masked 7 x) × (result < 128) }
 {
-    let y = (x as i64) + 2147483648;
-    ((y as u64) % 128) as usize
+    (x.cast_unsigned() % 128) as usize
 }
 
 // The voxels along a side of a grid, and in a layer.

@@ -4,7 +4,7 @@ ghost use Rattle.bitset.specs.Set.{bit_of};
 ghost use Rattle.nodes.specs.Layout.{word_of, kid_bit, val_bit};
 ghost use Rattle.nodes.specs.Range.{Masked, Placed};
 
-use super::geometry::{Leaf, Top};
+use super::geometry::{Leaf, Level, Top};
 
 // The words of the tops of the eight seats, which stand first, and of a cell.
 pub const TOPS: usize = 8 * Top::SIZE;

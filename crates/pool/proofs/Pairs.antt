@@ -1,14 +1,14 @@
 -- The calls on two seats: their refusals and promises, from what the code tested and did. Assumes nothing.
 use mathlib.Core.Path.{◌≡◌, refl, sym, ap, ap₂, ◌∙◌, subst, fun_ext}
 use mathlib.Core.Bool.{Bool, true, false, not, ◌&&◌, ◌||◌, cond, false≢true}
-use mathlib.Core.List.{[], ◌∷◌}
+use mathlib.Core.List.{List, [], ◌∷◌}
 use mathlib.Core.Logic.{◌≢◌}
 use mathlib.Core.Option.{none, some}
 use Prim.Native.Nat.{ℕ, ◌<◌, ◌≤◌}
 use native.Mathlib.Omega.{arith}
 use lib.ListN.{get_or}
 use lib.Dec.{leb, eqb}
-use borrow.Author.Tests.{le-leb, lt-leb, eq-eqb, ne_eqb, not-false}
+use borrow.Author.Tests.{le-leb, lt-leb, not-false}
 use Rattle.grid.specs.Node.{Node, put}
 use Rattle.floats.specs.Value.{far_with}
 use Rattle.grid.specs.Combine.{Operation, combine_s}
@@ -40,137 +40,110 @@ use Rattle.means.proofs.SeatTurn.{turn_sound, turn_seats}
 use Rattle.means.proofs.Unspoilt.{unspoilt_mark}
 use Rattle.csg.specs.Joinable.{Joinable}
 use Rattle.voxels.specs.Lent.{lent}
-use Rattle.voxels.specs.Answers.{Says, or_else, or_none, code_of}
-use Rattle.pool.specs.Guard.{given_of, guard_of, later_of, solid_of, room_of, filled_of}
+use Rattle.std.specs.Prelude.{Result, Ok, Err}
+use Rattle.voxels.specs.Answers.{Says, or_none, done_of}
+use Rattle.voxels.specs.Refused.{number_of}
+use Rattle.voxels.specs.declared.refusal.Refusal.{Refusal}
+use Rattle.voxels.specs.declared.refusal.Refusal.TheVariants.{Unfilled, EmptyBranch, Occupied, NoCells}
 use Rattle.sound.proofs.Book.{st_mark}
-use Rattle.pool.proofs.Guards.{refusal_guard, served_sound, clean_fits, clean_given, clean_sound, two_seats, or_none_lem}
-use Rattle.voxels.proofs.Promises.{Counted, counted_some, is_cells, is_pool}
-use Rattle.voxels.proofs.Turns.{Kept, kept_lens, kept_cells, kept_fits}
+use Rattle.pool.specs.Guard.{given_of, two_given, guard_of, later_of, solid_of, room_of, filled_of}
+use Rattle.pool.proofs.Guards.{guard_refuses, guard_passes, served_sound, clean, two_seats}
+use Rattle.voxels.proofs.Promises.{Counted, is_pool}
+use Rattle.voxels.proofs.Turns.{Kept, kept_lens, kept_cells, kept_fits, kept_counted}
 
--- ---- the refusals of a call on two seats: g is the number of what was given, and r that of the guard
+-- ---- the refusals of a call on two seats: g is what was given
 two_kind : (x : Pair) (i j : ℕ) → ((asks (Two x i j)).kind ≡ whole_pool) × ((asks (Two x i j)).given ≡ true)
 two_kind Copy i j = (refl, refl)
 two_kind (Combine o) i j = (refl, refl)
-
-module _ (x : Pair) (i j : ℕ) (m : Mem) {g r : ℕ} (b : g ≡ cond (leb 8 i || leb 8 j) 2 (cond (eqb i j) 3 0)) (c : r ≡ guard_of m g) where
-  given : given_of (Two x i j) ≡ g
-  given = rw (two_kind x i j).1 (sym b)
-
-  guarded : refusal (reads_in m) (Two x i j) ≡ or_else r (later_of (reads_in m) (Two x i j))
-  guarded = refusal_guard m (Two x i j) (two_kind x i j).0 ∙ ap (λ (k : ℕ). or_else k (later_of (reads_in m) (Two x i j))) (sym (c ∙ ap (guard_of m) (sym given)))
-
-  pub pair_first : (r ≡ 0 → ⊥) → refusal (reads_in m) (Two x i j) ≡ or_none r
-  pair_first h = guarded ∙ or_none_lem r (later_of (reads_in m) (Two x i j)) h
-
-  module _ (z : r ≡ 0) where
-    pub pair_fits : fits m ≡ true
-    pair_fits = clean_fits m g (sym c ∙ z)
-
-    pub pair_seats : (i < 8) × (j < 8)
-    pair_seats = two_seats i j (sym b ∙ clean_given m g (sym c ∙ z))
-
-    pair_sound : SoundMem m
-    pair_sound = clean_sound m g (sym c ∙ z)
-
-    served_later : refusal (reads_in m) (Two x i j) ≡ later_of (reads_in m) (Two x i j)
-    served_later = guarded ∙ ap (λ (k : ℕ). or_else k (later_of (reads_in m) (Two x i j))) z
 
 -- a seat's grid is its tree
 grid_is : (m : Mem) (s : SoundMem m) (i : ℕ) → i < 8 → (seat_of m i).grid ≡ tree 3 (2 ∷ 2 ∷ []) (pool_of m) i
 grid_is m s i l = ap (λ (x : Seat 3 (2 ∷ 2 ∷ [])). x.grid) (seat_is m s i l)
 
--- where the guard found nothing
-module _ (i j : ℕ) (m : Mem) {g r : ℕ} (b : g ≡ cond (leb 8 i || leb 8 j) 2 (cond (eqb i j) 3 0)) (c : r ≡ guard_of m g) (z : r ≡ 0) where
-  pub copy_room : (k : ℕ) → k ≡ room_of m i j → refusal (reads_in m) (Two Copy i j) ≡ or_none k
-  unfolding reached
-  copy_room k q =
-      let s : SoundMem m = pair_sound Copy i j m b c z in
-      let l : (i < 8) × (j < 8) = pair_seats Copy i j m b c z in
-      served_later Copy i j m b c z
-      ∙ ap₂ (λ (e : Bool) (n : ℕ). cond (not e) (some 8) (cond (not (leb n (pool_of m).count)) (some 9) none))
-      (ap (is_empty 3 (2 ∷ 2 ∷ [])) (grid_is m s j l.1)) (ap (reach 3 (2 ∷ 2 ∷ [])) (grid_is m s i l.0) ∙ sym (reached_is s.1 2 i (l.0, refl)))
-      ∙ go (is_empty 3 (2 ∷ 2 ∷ []) (tree 3 (2 ∷ 2 ∷ []) (pool_of m) j)) (leb (reached_m 3 (2 ∷ 2 ∷ []) (cells_of m) (pool_of m) i) (pool_of m).count) ∙ ap or_none (sym q)
-    where
-      go : (e f : Bool) → cond (not e) (some 8) (cond (not f) (some 9) none) ≡ or_none (cond e (cond f 0 9) 8)
-      go true true = refl
-      go true false = refl
-      go false f = refl
+module _ (i j : ℕ) (m : Mem) {g : Result Unit Refusal} (b : g ≡ two_given i j) where
+  given : (x : Pair) → g ≡ given_of (Two x i j)
+  given x = b ∙ rw (two_kind x i j).1 refl
 
-  pub combine_filled : (o : Operation) (k : ℕ) → k ≡ filled_of m i j → refusal (reads_in m) (Two (Combine o) i j) ≡ or_none k
-  combine_filled o k q =
-      let s : SoundMem m = pair_sound (Combine o) i j m b c z in
-      let l : (i < 8) × (j < 8) = pair_seats (Combine o) i j m b c z in
-      served_later (Combine o) i j m b c z
-      ∙ ap₂ (λ (e f : Bool). cond (not (eqb ((pool_of m).mark i) 1) || not (eqb ((pool_of m).mark j) 1)) (some 6) (cond (e || f) (some 7) none))
-      (ap (has_hollow 3 (2 ∷ 2 ∷ [])) (grid_is m s i l.0) ∙ sym (hollow_seat s.1 i l.0)) (ap (has_hollow 3 (2 ∷ 2 ∷ [])) (grid_is m s j l.1) ∙ sym (hollow_seat s.1 j l.1))
-      ∙ go (eqb ((pool_of m).mark i) 1) (eqb ((pool_of m).mark j) 1) (hollow_m 3 (2 ∷ 2 ∷ []) (cells_of m) (pool_of m) i || hollow_m 3 (2 ∷ 2 ∷ []) (cells_of m) (pool_of m) j) ∙ ap or_none (sym q)
-    where
-      go : (e f h : Bool) → cond (not e || not f) (some 6) (cond h (some 7) none) ≡ or_none (cond (e && f) (cond h 7 0) 6)
-      go true true true = refl
-      go true true false = refl
-      go true false h = refl
-      go false f h = refl
+  pub pair_first : (x : Pair) {e : Refusal} → guard_of m g ≡ Err e → refusal (reads_in m) (Two x i j) ≡ some (number_of e)
+  pair_first x = guard_refuses m (Two x i j) (two_kind x i j).0 (given x)
 
--- ---- 8 and 9, as the code finds them
-module _ (m : Mem) (n : ℕ) (h : Counted n m) (fit : fits m ≡ true) (i j : ℕ) where
-  z : n ≡ 0 → ⊥
-  z = counted_some m n h fit
+  -- where the guard found nothing, in a pool of n cells
+  module _ {n : ℕ} (h : (guard_of m g ≡ Ok tt) × (n ≡ cells_of m)) where
+    pub pair_counted : Counted n m
+    pair_counted = record { fit = (clean m g h.0).fit; cells = h.1 }
 
-  module _ (e : Bool) (d : e ≡ is_empty 3 (2 ∷ 2 ∷ []) (tree 3 (2 ∷ 2 ∷ []) (st n m.slots m.masks m.book) j)) where
-    empty : is_empty 3 (2 ∷ 2 ∷ []) (tree 3 (2 ∷ 2 ∷ []) (pool_of m) j) ≡ e
-    empty = sym (d ∙ ap (λ (s : St). is_empty 3 (2 ∷ 2 ∷ []) (tree 3 (2 ∷ 2 ∷ []) s j)) (is_pool m n h z))
+    pub pair_seats : (i < 8) × (j < 8)
+    pair_seats = two_seats i j (sym b ∙ (clean m g h.0).good)
 
-    pub room_8 : e ≡ false → 8 ≡ room_of m i j
-    room_8 f = sym (rw (empty ∙ f) refl)
+    pair_sound : SoundMem m
+    pair_sound = (clean m g h.0).sound
 
-    module _ (f : e ≡ true) {a k : ℕ} (p : a ≡ reached_m 3 (2 ∷ 2 ∷ []) n (st n m.slots m.masks m.book) i) (q : k ≡ (st n m.slots m.masks m.book).count) where
-      need : reached_m 3 (2 ∷ 2 ∷ []) (cells_of m) (pool_of m) i ≡ a
-      need = sym (p ∙ ap₂ (λ (n : ℕ) (s : St). reached_m 3 (2 ∷ 2 ∷ []) n s i) (is_cells m n h z) (is_pool m n h z))
+    served_later : (x : Pair) → refusal (reads_in m) (Two x i j) ≡ later_of (reads_in m) (Two x i j)
+    served_later x = guard_passes m (Two x i j) (two_kind x i j).0 (given x) h.0
 
-      free : (pool_of m).count ≡ k
-      free = sym (q ∙ ap (λ (s : St). s.count) (is_pool m n h z))
+    pub copy_room : (k : Result Unit Refusal) → k ≡ room_of n (st n m.slots m.masks m.book) i j → refusal (reads_in m) (Two Copy i j) ≡ or_none k
+    unfolding reached
+    copy_room k q =
+        let s : SoundMem m = pair_sound in
+        let l : (i < 8) × (j < 8) = pair_seats in
+        served_later Copy
+        ∙ ap₂ (λ (e : Bool) (n : ℕ). cond (not e) (some 8) (cond (not (leb n (pool_of m).count)) (some 9) none))
+        (ap (is_empty 3 (2 ∷ 2 ∷ [])) (grid_is m s j l.1)) (ap (reach 3 (2 ∷ 2 ∷ [])) (grid_is m s i l.0) ∙ sym (reached_is s.1 2 i (l.0, refl)))
+        ∙ go (is_empty 3 (2 ∷ 2 ∷ []) (tree 3 (2 ∷ 2 ∷ []) (pool_of m) j)) (leb (reached_m 3 (2 ∷ 2 ∷ []) (cells_of m) (pool_of m) i) (pool_of m).count)
+        ∙ ap or_none (ap₂ (λ (n : ℕ) (s : St). room_of n s i j) (sym h.1) (sym (is_pool pair_counted)) ∙ sym q)
+      where
+        go : (e f : Bool) → cond (not e) (some 8) (cond (not f) (some 9) none) ≡ or_none (cond e (cond f (Ok tt) (Err NoCells)) (Err Occupied))
+        go true true = refl
+        go true false = refl
+        go false f = refl
 
-      pub room_9 : k < a → 9 ≡ room_of m i j
-      room_9 l = sym (rw (empty ∙ f, need, free, lt-leb a k l) refl)
+    pub combine_filled : (o : Operation) (k : Result Unit Refusal) → k ≡ filled_of n (st n m.slots m.masks m.book) i j → refusal (reads_in m) (Two (Combine o) i j) ≡ or_none k
+    combine_filled o k q =
+        let s : SoundMem m = pair_sound in
+        let l : (i < 8) × (j < 8) = pair_seats in
+        served_later (Combine o)
+        ∙ ap₂ (λ (e f : Bool). cond (not (eqb ((pool_of m).mark i) 1) || not (eqb ((pool_of m).mark j) 1)) (some 6) (cond (e || f) (some 7) none))
+        (ap (has_hollow 3 (2 ∷ 2 ∷ [])) (grid_is m s i l.0) ∙ sym (hollow_seat s.1 i l.0)) (ap (has_hollow 3 (2 ∷ 2 ∷ [])) (grid_is m s j l.1) ∙ sym (hollow_seat s.1 j l.1))
+        ∙ go (eqb ((pool_of m).mark i) 1) (eqb ((pool_of m).mark j) 1) (hollow_m 3 (2 ∷ 2 ∷ []) (cells_of m) (pool_of m) i || hollow_m 3 (2 ∷ 2 ∷ []) (cells_of m) (pool_of m) j)
+        ∙ ap or_none (ap₂ (λ (n : ℕ) (s : St). filled_of n s i j) (sym h.1) (sym (is_pool pair_counted)) ∙ sym q)
+      where
+        go : (e f h : Bool) → cond (not e || not f) (some 6) (cond h (some 7) none) ≡ or_none (cond (e && f) (cond h (Err EmptyBranch) (Ok tt)) (Err Unfilled))
+        go true true true = refl
+        go true true false = refl
+        go true false h = refl
+        go false f h = refl
 
-      pub room_0 : a ≤ k → 0 ≡ room_of m i j
-      room_0 l = sym (rw (empty ∙ f, need, free, le-leb a k l) refl)
+-- ---- 6 to 9, as the code finds them in a pool of n cells
+module _ (n : ℕ) (s : St) (i j : ℕ) where
+  module _ (e : is_empty 3 (2 ∷ 2 ∷ []) (tree 3 (2 ∷ 2 ∷ []) s j) ≡ true) {a k : ℕ} (p : a ≡ reached_m 3 (2 ∷ 2 ∷ []) n s i) (q : k ≡ s.count) where
+    pub room_9 : k < a → Err NoCells ≡ room_of n s i j
+    room_9 l = rw (e, sym p, sym q, lt-leb a k l) refl
 
--- ---- 6 and 7, as the code finds them
-module _ (m : Mem) (fit : fits m ≡ true) (i j : ℕ) (hi : i < 8) (hj : j < 8) where
-  mark_at : (t : ℕ) → t < 8 → (pool_of m).mark t ≡ get_or m.book t 0
-  unfolding pool_of
-  mark_at t h = st_mark (cells_of m) m.slots m.masks m.book t h
+    pub room_0 : a ≤ k → Ok tt ≡ room_of n s i j
+    room_0 l = rw (e, sym p, sym q, le-leb a k l) refl
 
-  off : (t : ℕ) → t < 8 → (get_or m.book t 0 ≡ 1 → ⊥) → eqb ((pool_of m).mark t) 1 ≡ false
-  off t h e = ap (λ (k : ℕ). eqb k 1) (mark_at t h) ∙ ne_eqb (get_or m.book t 0) 1 e
+  module _ {f : Bool} (is : f ≡ eqb (s.mark i) 1 && eqb (s.mark j) 1) where
+    pub filled_6 : f ≡ false → Err Unfilled ≡ filled_of n s i j
+    filled_6 e = rw (sym is ∙ e) refl
 
-  on : (t : ℕ) → t < 8 → get_or m.book t 0 ≡ 1 → eqb ((pool_of m).mark t) 1 ≡ true
-  on t h e = ap (λ (k : ℕ). eqb k 1) (mark_at t h) ∙ eq-eqb (get_or m.book t 0) 1 e
+    pub filled_7 : f ≡ true → (e : Refusal) → Err e ≡ solid_of n s i → Err e ≡ filled_of n s i j
+    filled_7 t e d = rw (sym is ∙ t) (go (hollow_m 3 (2 ∷ 2 ∷ []) n s i) (hollow_m 3 (2 ∷ 2 ∷ []) n s j) d)
+      where
+        go : (h k : Bool) → Err e ≡ cond h (Err EmptyBranch) (Ok (tt {0})) → Err e ≡ cond (h || k) (Err EmptyBranch) (Ok (tt {0}))
+        go true k d = d
+        go false k d = cc
 
-  pub filled_first : (get_or m.book i 0 ≡ 1 → ⊥) → 6 ≡ filled_of m i j
-  filled_first e = sym (rw (off i hi e) refl)
+    pub filled_last : f ≡ true → {u : Unit {0}} → Ok u ≡ solid_of n s i → {r : Result Unit Refusal} → r ≡ solid_of n s j → r ≡ filled_of n s i j
+    filled_last t {u} d q = q ∙ rw (sym is ∙ t) (go (hollow_m 3 (2 ∷ 2 ∷ []) n s i) (hollow_m 3 (2 ∷ 2 ∷ []) n s j) d)
+      where
+        go : (h k : Bool) → Ok u ≡ cond h (Err EmptyBranch) (Ok (tt {0})) → cond k (Err EmptyBranch) (Ok (tt {0})) ≡ cond (h || k) (Err EmptyBranch) (Ok (tt {0}))
+        go true k d = cc
+        go false k d = refl
 
-  module _ (p : get_or m.book i 0 ≡ 1) where
-    pub filled_second : (get_or m.book j 0 ≡ 1 → ⊥) → 6 ≡ filled_of m i j
-    filled_second e = sym (rw (on i hi p, off j hj e) refl)
-
-    module _ (q : get_or m.book j 0 ≡ 1) {a : ℕ} (d : a ≡ solid_of m i) where
-      pub filled_7 : (a ≡ 0 → ⊥) → a ≡ filled_of m i j
-      filled_7 z = go (hollow_m 3 (2 ∷ 2 ∷ []) (cells_of m) (pool_of m) i) refl d ∙ sym (rw (on i hi p, on j hj q) refl)
-        where
-          go : (h : Bool) → hollow_m 3 (2 ∷ 2 ∷ []) (cells_of m) (pool_of m) i ≡ h → a ≡ cond h 7 0
-              → a ≡ cond (hollow_m 3 (2 ∷ 2 ∷ []) (cells_of m) (pool_of m) i || hollow_m 3 (2 ∷ 2 ∷ []) (cells_of m) (pool_of m) j) 7 0
-          go true e f = f ∙ sym (rw e refl)
-          go false e f = absurd (z f)
-
-      pub filled_last : a ≡ 0 → {k : ℕ} → k ≡ solid_of m j → k ≡ filled_of m i j
-      filled_last z f = f ∙ go (hollow_m 3 (2 ∷ 2 ∷ []) (cells_of m) (pool_of m) i) refl (sym z ∙ d) ∙ sym (rw (on i hi p, on j hj q) refl)
-        where
-          go : (h : Bool) → hollow_m 3 (2 ∷ 2 ∷ []) (cells_of m) (pool_of m) i ≡ h → ◌≡◌ {A = ℕ} 0 (cond h 7 0)
-              → solid_of m j ≡ cond (hollow_m 3 (2 ∷ 2 ∷ []) (cells_of m) (pool_of m) i || hollow_m 3 (2 ∷ 2 ∷ []) (cells_of m) (pool_of m) j) 7 0
-          go true e f = absurd (omega arith)
-          go false e f = sym (rw e refl)
+-- what the book says of the two marks
+pub both_are : (n : ℕ) (slots masks book : List ℕ) (i j : ℕ) → (i < 8) × (j < 8) → {f : Bool} → f ≡ eqb (get_or book i 0) 1 && eqb (get_or book j 0) 1
+    → f ≡ eqb ((st n slots masks book).mark i) 1 && eqb ((st n slots masks book).mark j) 1
+both_are n slots masks book i j l e = rw (st_mark n slots masks book i l.0, st_mark n slots masks book j l.1) e
 
 -- ---- the copy done: m' is the memory after it
 
@@ -197,13 +170,11 @@ module _ (m : Mem) (i j : ℕ) (serve : refusal (reads_in m) (Two Copy i j) ≡ 
       hollow = not-false (is_empty 3 (2 ∷ 2 ∷ []) (seat_of m j).grid) (all_pass order (reads_in m) (Two Copy i j) serve).1.1.1.1.1.1.1.0
 
   pub copy_says : (n : ℕ) (h : Counted n m) (m' : Mem) (k : Kept m m')
-      → st n m'.slots m'.masks m'.book ≡ mark_s j 0 (copy_m 3 (2 ∷ 2 ∷ []) n i j (st n m.slots m.masks m.book)) → Says code_of (Two Copy i j) m 0 m'
+      → st n m'.slots m'.masks m'.book ≡ mark_s j 0 (copy_m 3 (2 ∷ 2 ∷ []) n i j (st n m.slots m.masks m.book)) → Says done_of (Two Copy i j) m (Ok tt) m'
   unfolding served both
   copy_says n h m' k is =
-      let z : n ≡ 0 → ⊥ = counted_some m n h s.0 in
-      let after : st n m'.slots m'.masks m'.book ≡ pool_of m' = is_pool m' n (λ y a b d. h y (a ∙ k.slots) (b ∙ k.masks) (d ∙ k.book)) z in
       let is' : pool_of m' ≡ mark_s j 0 (copy_m 3 (2 ∷ 2 ∷ []) (cells_of m) i j (pool_of m)) =
-      sym after ∙ is ∙ ap₂ (λ (c : ℕ) (p : St). mark_s j 0 (copy_m 3 (2 ∷ 2 ∷ []) c i j p)) (is_cells m n h z) (is_pool m n h z) in
+      sym (is_pool (kept_counted k h)) ∙ is ∙ ap₂ (λ (c : ℕ) (p : St). mark_s j 0 (copy_m 3 (2 ∷ 2 ∷ []) c i j p)) h.cells (is_pool h) in
       let fit : fits m' ≡ true = kept_fits k ∙ s.0 in
       let two : 0 < 2 = omega arith in (
         done,
@@ -236,9 +207,8 @@ module _ (o : Operation) (m : Mem) (i j : ℕ) (serve : refusal (reads_in m) (Tw
   -- the two may be joined
   pub combine_may : (n : ℕ) → Counted n m → Joinable n 2 (st n m.slots m.masks m.book) i j
   combine_may n h =
-      let z : n ≡ 0 → ⊥ = counted_some m n h combine_sound.0 in
       record {
-        sound = subst (λ (c : ℕ). Sound c (st n m.slots m.masks m.book)) (sym (is_cells m n h z)) (subst (Sound (cells_of m)) (sym (is_pool m n h z)) combine_sound.1);
+        sound = subst (λ (c : ℕ). Sound c (st n m.slots m.masks m.book)) (sym h.cells) (subst (Sound (cells_of m)) (sym (is_pool h)) combine_sound.1);
         at_x = (combine_low.0, refl);
         at_y = (combine_low.1, refl);
         differ = combine_differ;
@@ -253,14 +223,12 @@ module _ (o : Operation) (m : Mem) (i j : ℕ) (serve : refusal (reads_in m) (Tw
       or_both false b e = (refl, e)
 
   pub combine_says : (n : ℕ) (h : Counted n m) (m' : Mem) (k : Kept m m')
-      → st n m'.slots m'.masks m'.book ≡ mark_s j 0 (combined_s o n i j (st n m.slots m.masks m.book)) → Says code_of (Two (Combine o) i j) m 0 m'
+      → st n m'.slots m'.masks m'.book ≡ mark_s j 0 (combined_s o n i j (st n m.slots m.masks m.book)) → Says done_of (Two (Combine o) i j) m (Ok tt) m'
   unfolding served both
   combine_says n h m' k is =
       let s : SoundMem m = combine_sound in
-      let z : n ≡ 0 → ⊥ = counted_some m n h s.0 in
-      let after : st n m'.slots m'.masks m'.book ≡ pool_of m' = is_pool m' n (λ y a b d. h y (a ∙ k.slots) (b ∙ k.masks) (d ∙ k.book)) z in
       let is' : pool_of m' ≡ mark_s j 0 (combined_s o (cells_of m) i j (pool_of m)) =
-      sym after ∙ is ∙ ap₂ (λ (c : ℕ) (p : St). mark_s j 0 (combined_s o c i j p)) (is_cells m n h z) (is_pool m n h z) in
+      sym (is_pool (kept_counted k h)) ∙ is ∙ ap₂ (λ (c : ℕ) (p : St). mark_s j 0 (combined_s o c i j p)) h.cells (is_pool h) in
       let fit : fits m' ≡ true = kept_fits k ∙ s.0 in
       let c = combined_by s.1 i j combine_low.0 combine_low.1 combine_differ o in (
         done,

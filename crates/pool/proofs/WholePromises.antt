@@ -2,11 +2,11 @@
 use mathlib.Core.Path.{◌≡◌, refl, sym, ap, ap₂, ◌∙◌, subst, fun_ext}
 use mathlib.Core.Bool.{Bool, true, false, not, ◌&&◌, cond}
 use mathlib.Core.List.{List, [], ◌∷◌}
-use mathlib.Core.Option.{none}
+use mathlib.Core.Option.{none, some}
 use Prim.Native.Nat.{ℕ, zero, suc, ◌+◌, ◌-◌, ◌*◌, ◌%◌, ◌<◌, ◌≤◌}
 use native.Mathlib.Omega.{arith}
-use lib.ListN.{length, get_or, take, drop}
-use lib.Dec.{ltb, leb, eqb}
+use lib.ListN.{get_or, take, drop}
+use lib.Dec.{ltb, eqb}
 use borrow.Author.Tests.{ltb-true}
 use Rattle.floats.proofs.Words.{on_case}
 use Rattle.bitset.specs.Set.{bit_of, every, empty}
@@ -25,20 +25,21 @@ use Rattle.nodes.proofs.Places.{word_top}
 use Rattle.nodes.proofs.States.{st_kid, st_val}
 use Rattle.means.specs.Level.{Same}
 use Rattle.means.specs.Unspoilt.{Unspoilt}
-use Rattle.means.specs.Mem.{Mem, cells_of, pool_of, SoundMem, seat_of, state_of, lens_of, reads_in, UnspoiltMem}
+use Rattle.means.specs.Mem.{Mem, cells_of, fits, pool_of, SoundMem, seat_of, state_of, reads_in, UnspoiltMem}
 use Rattle.means.specs.Prepared.{Ready}
 use Rattle.means.proofs.Memory.{fitting, seat_is}
 use Rattle.means.proofs.Prepared.{ready_sound, ready_fresh}
-use Rattle.voxels.specs.Answers.{Says, code_of, whether_of}
+use Rattle.std.specs.Prelude.{Result, Ok, Err, Option as Maybe, Some, None, ok_or}
+use Rattle.voxels.specs.Refused.{number_of}
+use Rattle.voxels.specs.declared.refusal.Refusal.{Refusal}
+use Rattle.voxels.specs.declared.refusal.Refusal.TheVariants.{Lengths}
+use Rattle.voxels.specs.Answers.{Says, done_of, whether_of}
 use Rattle.pool.specs.Count.{count_of}
-use Rattle.voxels.specs.Answers.{or_none}
-use Rattle.pool.specs.Guard.{guard_of}
-use Rattle.pool.specs.declared.whole.Free.TheVariants as free
-use Rattle.voxels.specs.declared.sign.Whether.TheVariants as whether
 use Rattle.sound.proofs.Book.{st_count}
 use Rattle.sound.proofs.Checks.{passed, failed}
-use Rattle.pool.proofs.Guards.{plain_is, served_seat, served_sound}
-use Rattle.voxels.proofs.Promises.{Counted, counted_some, is_fit, is_cells, is_pool}
+use Rattle.pool.proofs.Guards.{served_seat, served_sound}
+use Rattle.voxels.proofs.Promises.{Counted, not_counted, is_pool}
+use Rattle.voxels.proofs.Turns.{Kept, kept_lens, kept_cells, kept_counted}
 use Rattle.sound.proofs.Ready.{top, prepared_unspoilt}
 
 -- ---- preparing: m is the memory before it, and m' after it
@@ -53,32 +54,37 @@ ready_seat m r t = on_case (ltb t 8)
     (ap₂ {C = Seat 3 (2 ∷ 2 ∷ [])} (λ (g : Node (3 ∷ 2 ∷ 2 ∷ [])) (k : ℕ). record { grid = g; filled = eqb k 1 }) (ready_fresh r t l) (r.unmarked t l)))
     (λ e. rw e refl)
 
-pub prepare_says : (m m' : Mem) (n : ℕ) → Counted n m → (n ≡ 0 → ⊥) → Ready n (st n m'.slots m'.masks m'.book)
-    → ((x : ℕ) → 8 ≤ x → Same (st n m.slots m.masks m.book) (st n m'.slots m'.masks m'.book) x)
-    → length m'.slots ≡ length m.slots → length m'.masks ≡ length m.masks → length m'.book ≡ length m.book → Says code_of Prepare m 0 m'
+-- refusal 1: the test of the lengths answered with o
+pub prepare_refused : (m : Mem) (e : Refusal) {o : Maybe ℕ} → o ≡ None → Err e ≡ ok_or o Lengths → o ≡ cond (fits m) (Some (cells_of m)) None → refusal (reads_in m) Prepare ≡ some (number_of e)
+prepare_refused m e z v h =
+    let d : e ≡ Lengths = lengths (v ∙ ap (λ (o : Maybe ℕ). ok_or o Lengths) z) in
+    rw (d, not_counted m (sym z ∙ h)) refl
+  where
+    lengths : ◌≡◌ {A = Result ℕ Refusal} (Err e) (Err Lengths) → e ≡ Lengths
+    lengths q = cc
+
+pub prepare_says : (m m' : Mem) (n : ℕ) → Counted n m → Ready n (st n m'.slots m'.masks m'.book)
+    → ((x : ℕ) → 8 ≤ x → Same (st n m.slots m.masks m.book) (st n m'.slots m'.masks m'.book) x) → Kept m m' → Says done_of Prepare m (Ok tt) m'
 unfolding step play served
-prepare_says m m' n h z r w a b c = (done, refl, rw (is_fit m n h z) (refl, sound, state, lens, unspoilt))
+prepare_says m m' n h r w k = (done, refl, rw h.fit (refl, sound, state, kept_lens k, unspoilt))
   where
     -- the lengths are the same, and so is the number of cells
     after : Counted n m'
-    after k p q s = h k (p ∙ a) (q ∙ b) (s ∙ c)
+    after = kept_counted k h
 
     ready : Ready (cells_of m') (pool_of m')
-    ready = subst (λ (k : ℕ). Ready k (pool_of m')) (is_cells m' n after z) (subst (Ready n) (is_pool m' n after z) r)
+    ready = subst (λ (k : ℕ). Ready k (pool_of m')) after.cells (subst (Ready n) (is_pool after) r)
 
     sound : SoundMem m'
-    sound = let f = is_fit m' n after z in (f, ready_sound ready (fitting m' f).most)
+    sound = (after.fit, ready_sound ready (fitting m' after.fit).most)
 
     state : state_of m' ≡ record { seat = λ t. fresh 3 (2 ∷ 2 ∷ []); all = cells_of m }
     state =
         ap₂ {C = State 3 (2 ∷ 2 ∷ [])} (λ (s : ℕ → Seat 3 (2 ∷ 2 ∷ [])) (k : ℕ). record { seat = s; all = k })
-        (fun_ext (ready_seat m' ready)) (sym (is_cells m' n after z) ∙ is_cells m n h z)
-
-    lens : lens_of m' ≡ lens_of m
-    lens = rw (a, b, c) refl
+        (fun_ext (ready_seat m' ready)) (kept_cells k)
 
     unspoilt : UnspoiltMem m m'
-    unspoilt = subst (λ (s : St). Unspoilt s (pool_of m')) (is_pool m n h z) (subst (Unspoilt (st n m.slots m.masks m.book)) (is_pool m' n after z) (prepared_unspoilt n m'.slots m'.masks m'.book r w))
+    unspoilt = subst (λ (s : St). Unspoilt s (pool_of m')) (is_pool h) (subst (Unspoilt (st n m.slots m.masks m.book)) (is_pool after) (prepared_unspoilt n m'.slots m'.masks m'.book r w))
 
 -- ---- both masks of a top are empty exactly where every slot of it is hidden
 
@@ -143,26 +149,19 @@ module _ (n : ℕ) (slots masks book : List ℕ) (t : ℕ) (l : t < 8) where
     vals_say f q d = d ∙ sym (empty_is_lem ∙ rw (passed r e f) refl)
 
 -- ---- a call that tests the whole pool and is served
-pub count_says : (m : Mem) → refusal (reads_in m) Count ≡ none → (k : ℕ) → k ≡ get_or m.book count_place 0 → Says count_of Count m (free.Cells k) m
+pub count_says : (m : Mem) → refusal (reads_in m) Count ≡ none → (k : ℕ) → k ≡ get_or m.book count_place 0 → Says count_of Count m (Ok k) m
 unfolding pool_of
 count_says m serve k d = (free_cells k, refl, rw serve (ap free_cells (d ∙ sym (st_count (cells_of m) m.slots m.masks m.book)), refl))
 
 pub empty_says : (m : Mem) (n : ℕ) (h : Counted n m) (i : ℕ) → refusal (reads_in m) (One i IsEmpty) ≡ none
-    → (r : Bool) → r ≡ is_empty 3 (2 ∷ 2 ∷ []) (tree 3 (2 ∷ 2 ∷ []) (st n m.slots m.masks m.book) i) → Says whether_of (One i IsEmpty) m (whether.Is r) m
+    → (r : Bool) → r ≡ is_empty 3 (2 ∷ 2 ∷ []) (tree 3 (2 ∷ 2 ∷ []) (st n m.slots m.masks m.book) i) → Says whether_of (One i IsEmpty) m (Ok r) m
 empty_says m n h i serve r d =
     let s = served_sound m (One i IsEmpty) serve refl in (
       empty_is r,
       refl,
       rw serve (
-        ap empty_is (d ∙ ap (λ (s : St). is_empty 3 (2 ∷ 2 ∷ []) (tree 3 (2 ∷ 2 ∷ []) s i)) (is_pool m n h (counted_some m n h s.0))
+        ap empty_is (d ∙ ap (λ (s : St). is_empty 3 (2 ∷ 2 ∷ []) (tree 3 (2 ∷ 2 ∷ []) s i)) (is_pool h)
             ∙ sym (ap (λ (x : Seat 3 (2 ∷ 2 ∷ [])). is_empty 3 (2 ∷ 2 ∷ []) x.grid) (seat_is m s i (served_seat m i IsEmpty serve)))),
         refl,
       ),
     )
-
--- ---- the refusals of both, g being what was given and r what the guard found
-pub count_barred : (m : Mem) {r : ℕ} → r ≡ guard_of m 0 → refusal (reads_in m) Count ≡ or_none r
-count_barred m e = plain_is m Count refl refl e
-
-pub empty_barred : (m : Mem) (i : ℕ) {g r : ℕ} → g ≡ cond (leb 8 i) 2 0 → r ≡ guard_of m g → refusal (reads_in m) (One i IsEmpty) ≡ or_none r
-empty_barred m i a e = plain_is m (One i IsEmpty) refl refl (e ∙ ap (guard_of m) a)

@@ -1,52 +1,51 @@
 // The tests that the calls on the whole pool have in common, in the order of the refusals.
-ghost use Rattle.std.specs.Prelude.{◌≡◌, cond, ◌||◌, leb, eqb};
+ghost use Rattle.std.specs.Prelude.{◌≡◌};
 ghost use Rattle.voxels.specs.Answers.{mem_of};
-ghost use Rattle.pool.specs.Guard.{guard_of};
+ghost use Rattle.pool.specs.Guard.{one_given, two_given, Guarded};
 
 use sound::{lengths, test};
+use voxels::refusal::Refusal;
 
-// The refusal that the arguments of a call on one seat give, where `finite` tells of its values; 0 if none.
-pub fn one_given(seat: u32, finite: bool) -> u32
-    ensures { result ≡ cond (leb 8 seat) 2 (cond finite 0 4) }
+// The refusal that the arguments of a call on one seat give, where `finite` tells of its values.
+pub fn one_given(seat: u32, finite: bool) -> Result<(), Refusal>
+    ensures { result ≡ one_given seat finite }
 {
     if 7 < seat {
-        return 2;
+        return Err(Refusal::Seat);
     }
-    if finite {
-        return 0;
+    if !finite {
+        return Err(Refusal::Value);
     }
-    4
+    Ok(())
 }
 
 // The same of a call on two seats that gives no values.
-pub fn two_given(first: u32, second: u32) -> u32
-    ensures { result ≡ cond (leb 8 first || leb 8 second) 2 (cond (eqb first second) 3 0) }
+pub fn two_given(first: u32, second: u32) -> Result<(), Refusal>
+    ensures { result ≡ two_given first second }
 {
-    if 7 < first {
-        return 2;
-    }
-    if 7 < second {
-        return 2;
+    if 7 < first || 7 < second {
+        return Err(Refusal::Seat);
     }
     if first == second {
-        return 3;
+        return Err(Refusal::SameSeat);
     }
-    0
+    Ok(())
 }
 
-// The first refusal of a call on the whole pool up to 5, where its arguments give the refusal `given`; 0 if none.
-pub fn guard(slots: &[u32], masks: &[u64], book: &[u32], given: u32) -> u32
-    ensures { result ≡ guard_of (mem_of slots.now masks.now book.now) given }
+// The first refusal of a call on the whole pool up to 5, where `given` is that of its arguments; if there is none, the number of cells.
+#[tactic(auto, unfolding(crate::specs::Guard::guard_of))]
+pub fn guard(
+    slots: &[u32],
+    masks: &[u64],
+    book: &[u32],
+    given: Result<(), Refusal>,
+) -> Result<usize, Refusal>
+    ensures { Guarded (mem_of slots.now masks.now book.now) given result }
 {
-    let n = lengths::cells(slots.len(), masks.len(), book.len());
-    if n == 0 {
-        return 1;
-    }
-    if given != 0 {
-        return given;
-    }
+    let n = lengths::cells(slots.len(), masks.len(), book.len()).ok_or(Refusal::Lengths)?;
+    given?;
     if !test::sound(slots, masks, book, n) {
-        return 5;
+        return Err(Refusal::Damaged);
     }
-    0
+    Ok(n)
 }

@@ -5,43 +5,30 @@ ghost use Rattle.seats.specs.Call.{One, IsEmpty, Prepare, Count};
 ghost use Rattle.nodes.specs.State.{tree};
 ghost use Rattle.nodes.specs.Layout.{st};
 ghost use Rattle.nodes.specs.Range.{Masked};
-ghost use Rattle.voxels.specs.Answers.{mem_of, Says, code_of, whether_of};
+ghost use Rattle.voxels.specs.Answers.{mem_of, Says, done_of, whether_of};
 ghost use Rattle.pool.specs.Count.{count_of};
 
 use super::guard;
-use nodes::geometry::Top;
+use nodes::geometry::{Level, Top};
 use nodes::memory::{COUNT, TOP_MASKS, TOP_WORDS};
 use sound::lengths;
-use voxels::sign::Whether;
+use voxels::refusal::Refusal;
 
-// Every cell is freed and every seat emptied, whatever the memory held. Answers 0, or 1 where the lengths do not belong together.
-pub fn prepare(slots: &mut [u32], masks: &mut [u64], book: &mut [u32]) -> u32
-    ensures { Says code_of Prepare (mem_of slots.old masks.old book.old) result (mem_of slots.new masks.new book.new) }
+// Every cell is freed and every seat emptied, whatever the memory held. Refused only where the lengths do not belong together.
+pub fn prepare(slots: &mut [u32], masks: &mut [u64], book: &mut [u32]) -> Result<(), Refusal>
+    ensures { Says done_of Prepare (mem_of slots.old masks.old book.old) result (mem_of slots.new masks.new book.new) }
 {
-    let n = lengths::cells(slots.len(), masks.len(), book.len());
-    if n == 0 {
-        return 1;
-    }
+    let n = lengths::cells(slots.len(), masks.len(), book.len()).ok_or(Refusal::Lengths)?;
     sound::prepare::prepare(slots, masks, book, n);
-    0
-}
-
-// What a count of the free cells answers.
-#[derive(Drop)]
-pub enum Free {
-    Cells(u32),
-    Refused(u32),
+    Ok(())
 }
 
 // The free cells. The recorded count is a true one, since the pool was tested.
-pub fn count(slots: &[u32], masks: &[u64], book: &[u32]) -> Free
+pub fn count(slots: &[u32], masks: &[u64], book: &[u32]) -> Result<u32, Refusal>
     ensures { Says count_of Count (mem_of slots.now masks.now book.now) result (mem_of slots.now masks.now book.now) }
 {
-    let no = guard::guard(slots, masks, book, 0);
-    if no != 0 {
-        return Free::Refused(no);
-    }
-    Free::Cells(book[COUNT])
+    guard::guard(slots, masks, book, Ok(()))?;
+    Ok(book[COUNT])
 }
 
 // Both masks of the top of seat t are empty: no slot of it is a branch or an active tile. A top has 8 words in each mask, and the tops come first.
@@ -58,13 +45,9 @@ pub fn both_empty(masks: &[u64], n: usize, t: usize) -> bool
 }
 
 // Whether a seat is empty: a look at the masks of its top, once the whole pool is known to be sound.
-pub fn is_empty(slots: &[u32], masks: &[u64], book: &[u32], seat: u32) -> Whether
+pub fn is_empty(slots: &[u32], masks: &[u64], book: &[u32], seat: u32) -> Result<bool, Refusal>
     ensures { Says whether_of (One seat IsEmpty) (mem_of slots.now masks.now book.now) result (mem_of slots.now masks.now book.now) }
 {
-    let no = guard::guard(slots, masks, book, guard::one_given(seat, true));
-    if no != 0 {
-        return Whether::Refused(no);
-    }
-    let n = lengths::cells(slots.len(), masks.len(), book.len());
-    Whether::Is(both_empty(masks, n, seat as usize))
+    let n = guard::guard(slots, masks, book, guard::one_given(seat, true))?;
+    Ok(both_empty(masks, n, seat as usize))
 }

@@ -1,12 +1,11 @@
 -- The sign fill of a node, as the code makes it: each cell below it, then its rows. Assumes nothing.
+use Rattle.std.specs.Prelude.{Option, Some, None}
 use mathlib.Core.Path.{◌≡◌, refl, sym, ap, ◌∙◌}
 use Prim.Native.Nat.{ℕ, zero, suc, ◌+◌, ◌-◌}
 use Rattle.grid.specs.Node.{size}
 use Rattle.nodes.specs.State.{St}
 use Rattle.nodes.specs.Walk.{branching, below}
 use Rattle.nodes.specs.Each.{each_s}
-use Rattle.nodes.specs.declared.walk.Below.{Below}
-use Rattle.nodes.specs.declared.walk.Below.TheVariants.{Go, Stop}
 use Rattle.nodes.proofs.Each.{each_more}
 use Rattle.nodes.proofs.Paths.{one_less}
 use Rattle.trees.specs.Slot.{child_r}
@@ -19,11 +18,11 @@ under n l x k s = down_s (fill_signs_m (branching (l - 1)) (below (l - 1)) n) n 
 
 module _ (n l x : ℕ) (s : St) where
   -- one slot more
-  module _ (k : ℕ) {t : St} {r : Below} (p : t ≡ each_s (under n l x) k s) where
-    pub fill_stop : r ≡ Stop → r ≡ child_r n t x k → t ≡ each_s (under n l x) (k + 1) s
+  module _ (k : ℕ) {t : St} {r : Option ℕ} (p : t ≡ each_s (under n l x) k s) where
+    pub fill_stop : r ≡ None → r ≡ child_r n t x k → t ≡ each_s (under n l x) (k + 1) s
     fill_stop d e = each_more (under n l x) s k p (by_stop n t x k (λ c. fill_signs_m (branching (l - 1)) (below (l - 1)) n (8 + c) t) t d e refl)
 
-    pub fill_go : {c : ℕ} {t' : St} → r ≡ Go c → r ≡ child_r n t x k → t' ≡ fill_signs_m (branching (l - 1)) (below (l - 1)) n (8 + c) t → t' ≡ each_s (under n l x) (k + 1) s
+    pub fill_go : {c : ℕ} {t' : St} → r ≡ Some c → r ≡ child_r n t x k → t' ≡ fill_signs_m (branching (l - 1)) (below (l - 1)) n (8 + c) t → t' ≡ each_s (under n l x) (k + 1) s
     fill_go d e q = each_more (under n l x) s k p (by_go n t x k (λ c. fill_signs_m (branching (l - 1)) (below (l - 1)) n (8 + c) t) t d e q)
 
   pub fill_leaf : {t : St} → l ≡ 0 → t ≡ rows_m (branching 0) (below 0) n x s → t ≡ fill_signs_m (branching l) (below l) n x s

@@ -1,6 +1,6 @@
--- The rows of a leaf, as the loops over its words make them: the sign is carried as the far word that has it. Assumes nothing.
+-- A leaf as one piece of words: its slots by word and bit, and the far word that a sign is carried as. Assumes nothing.
 use mathlib.Core.Path.{◌≡◌, refl, sym, ap, ◌∙◌}
-use mathlib.Core.Bool.{Bool, true, false, cond}
+use mathlib.Core.Bool.{Bool, true, false}
 use mathlib.Core.List.{List, []}
 use Prim.Native.Nat.{ℕ, zero, suc, ◌+◌, ◌-◌, ◌*◌, ◌<◌, ◌≤◌}
 use native.Mathlib.Omega.{arith}
@@ -11,120 +11,74 @@ use Rattle.bitset.proofs.Words.{ones, zero_bit, ones_bit}
 use Rattle.bitset.proofs.Sets.{has_own}
 use Rattle.bitset.proofs.First.{Leads}
 use Rattle.floats.specs.Value.{negative, far_with}
-use Rattle.floats.proofs.Words.{on_case}
 use Rattle.grid.specs.Node.{size}
 use Rattle.nodes.specs.State.{St}
-use Rattle.nodes.specs.Layout.{st, word_of}
+use Rattle.nodes.specs.Layout.{word_of}
 use Rattle.nodes.specs.Range.{In, Stands, Cells}
 use Rattle.nodes.proofs.Places.{wide_cell, word_cell}
 use Rattle.nodes.proofs.States.{st_slot, st_val}
 use Rattle.nodes.proofs.Paths.{leaf_cell}
 use Rattle.trees.specs.Slot.{hidden_s}
-use Rattle.signs.specs.Signs.{behind_s, write_s, carry_s, along_z, along_y, along_x, row_z, row_y, rows_m, Room, LeafAt, LeafStart, LeafSign, LeafDone}
+use Rattle.signs.specs.Signs.{behind_s, start_s, write_s, carry_s, along_z, along_y, along_x, row_z, row_y, rows_m}
+use Rattle.signs.specs.Seen.{Seen, seen, LeafShows}
 use Rattle.trees.proofs.Slots.{hidden_no, hidden_leaf, word_step}
 use Rattle.signs.proofs.SignAt.{sign_leaf, start_past, start_none, start_found, write_yes, write_no}
-use Rattle.signs.proofs.Rows.{Carried, carry_none, carry_more, all_z, all_y, all_x}
 
 -- ---- a slot of a leaf, by its word and its bit
-module _ {n x p v : ℕ} {slots masks : List ℕ} (a : LeafAt n x p v slots masks) (book : List ℕ) (k : ℕ) (h : k < 64) where
-  slot_in : In n x k
-  slot_in = record { node = a.node; slot = omega (arith, wide_cell x a.cell) }
+module _ {p v : ℕ} {q : Seen} (slots : List ℕ) (a : LeafShows p v q (length slots)) (k : ℕ) (h : k < 64) where
+  slot_in : In q.n q.x k
+  slot_in = record { node = a.node; slot = omega (arith, wide_cell q.x a.cell) }
 
-  place_is : p + k ≡ word_of x k
-  place_is = omega (arith, a.words, word_cell x k a.cell)
+  place_is : p + k ≡ word_of q.x k
+  place_is = omega (arith, a.words, word_cell q.x k a.cell)
 
-  slot_is : get_or slots (p + k) 0 ≡ (st n slots masks book).slot x k
-  slot_is = ap (λ (i : ℕ). get_or slots i 0) place_is ∙ sym (st_slot slots masks book slot_in)
+  slot_is : get_or slots (p + k) 0 ≡ (seen q slots).slot q.x k
+  slot_is = ap (λ (i : ℕ). get_or slots i 0) place_is ∙ sym (st_slot slots q.masks q.book slot_in)
 
-  val_is : word_bit v k ≡ (st n slots masks book).val x k
+  val_is : word_bit v k ≡ (seen q slots).val q.x k
   val_is =
-      let e : 64 * (120 + n + x) + k ≡ 64 * (64 + n) + word_of x k = omega (arith, word_cell x k a.cell) in
-      ap (λ (w : ℕ). word_bit w k) a.values ∙ has_own masks (120 + n + x) k h ∙ ap (bit_of masks) e ∙ sym (st_val slots masks book slot_in)
+      let e : 64 * (120 + q.n + q.x) + k ≡ 64 * (64 + q.n) + word_of q.x k = omega (arith, word_cell q.x k a.cell) in
+      ap (λ (w : ℕ). word_bit w k) a.values ∙ has_own q.masks (120 + q.n + q.x) k h ∙ ap (bit_of q.masks) e ∙ sym (st_val slots q.masks q.book slot_in)
 
-  hidden_is : word_bit v k ≡ false → true ≡ hidden_s [] (st n slots masks book) x k
-  hidden_is e = hidden_leaf (st n slots masks book) 0 x k val_is e refl
+  hidden_is : word_bit v k ≡ false → true ≡ hidden_s [] (seen q slots) q.x k
+  hidden_is e = hidden_leaf (seen q slots) 0 q.x k val_is e refl
 
-  write_none : word_bit v k ≡ true → (g : Bool) → st n slots masks book ≡ write_s [] x k g (st n slots masks book)
-  write_none e g = write_no [] x k g (st n slots masks book) (hidden_no (st n slots masks book) 0 x k val_is e) refl
+  write_none : word_bit v k ≡ true → (g : Bool) → seen q slots ≡ write_s [] q.x k g (seen q slots)
+  write_none e g = write_no [] q.x k g (seen q slots) (hidden_no (seen q slots) 0 q.x k val_is e) refl
 
 -- ---- the sign from which the rows start
-module _ {p v : ℕ} (slots : List ℕ) where
-  pub starts_none : {w : ℕ} → v ≡ 0 → w ≡ far_with false → LeafStart p v slots w
+module _ {p v : ℕ} {q : Seen} (slots : List ℕ) (a : LeafShows p v q (length slots)) where
+  pub starts_none : v ≡ 0 → far_with false ≡ far_with (start_s [] q.n (seen q slots) q.x 0 (size 2))
   unfolding size
-  starts_none z q n x masks book a =
-      q ∙ ap far_with (start_none [] n (st n slots masks book) x 64 64
-      (start_past [] n (st n slots masks book) x 64 64 (omega arith) (λ j l. hidden_is a book j l (ap (λ (w : ℕ). word_bit w j) z ∙ zero_bit j))) (omega arith))
+  starts_none z = ap far_with (start_none [] q.n (seen q slots) q.x 64 64
+      (start_past [] q.n (seen q slots) q.x 64 64 (omega arith) (λ j l. hidden_is slots a j l (ap (λ (w : ℕ). word_bit w j) z ∙ zero_bit j))) (omega arith))
 
-  pub starts_at : {k w w' : ℕ} → Leads v k → w ≡ get_or slots (p + k) 0 → w' ≡ far_with (negative w) → LeafStart p v slots w'
+  pub starts_at : {k : ℕ} → Leads v k → far_with (negative (get_or slots (p + k) 0)) ≡ far_with (start_s [] q.n (seen q slots) q.x 0 (size 2))
   unfolding size
-  starts_at {k} d e q n x masks book a =
-      let s = st n slots masks book in
-      q ∙ ap far_with (start_found [] n s x 64 k (start_past [] n s x 64 k (omega (arith, d.within)) (λ j l. hidden_is a book j (omega (arith, d.within)) (d.before j l))) d.within
-      (hidden_no s 0 x k (val_is a book k d.within) d.on) refl (sign_leaf n s 0 x k refl (ap negative (e ∙ slot_is a book k d.within))))
+  starts_at {k} d =
+      let s = seen q slots in
+      ap far_with (start_found [] q.n s q.x 64 k (start_past [] q.n s q.x 64 k (omega (arith, d.within)) (λ j l. hidden_is slots a j (omega (arith, d.within)) (d.before j l))) d.within
+      (hidden_no s 0 q.x k (val_is slots a k d.within) d.on) refl (sign_leaf q.n s 0 q.x k refl (ap negative (slot_is slots a k d.within))))
 
--- ---- one slot
-far_cond : (b u g : Bool) → cond b (far_with u) (far_with g) ≡ far_with (cond b u g)
-far_cond true u g = refl
-far_cond false u g = refl
+-- ---- one slot, by the bit of it that was read
+module _ {p v k : ℕ} {b : Bool} (h : k < 64) (e : b ≡ word_bit v k) {q : Seen} (slots : List ℕ) (a : LeafShows p v q (length slots)) (g : Bool) where
+  val_by : (seen q slots).val q.x k ≡ b
+  val_by = sym (val_is slots a k h) ∙ sym e
 
-module _ {p v k : ℕ} (slots : List ℕ) (h : k < 64) {b : Bool} (e : b ≡ word_bit v k) {w f : ℕ} where
-  pub behind_is : {u f' : ℕ} → w ≡ get_or slots (p + k) 0 → u ≡ far_with (negative w) → f' ≡ cond b u f → LeafSign (λ n s x. behind_s [] n s x k) p v f slots f'
+  pub behind_on : b ≡ true → far_with (negative (get_or slots (p + k) 0)) ≡ far_with (behind_s [] q.n (seen q slots) q.x k g)
   unfolding behind_s
-  behind_is d q r n x masks book g a c =
-      let s = st n slots masks book in
-      r ∙ (λ i. cond ((e ∙ val_is a book k h) i) ((q ∙ ap (λ (w : ℕ). far_with (negative w)) (d ∙ slot_is a book k h)) i) (c i)) ∙ far_cond (s.val x k) (negative (s.slot x k)) g
+  behind_on t = ap (λ (w : ℕ). far_with (negative w)) (slot_is slots a k h) ∙ sym (rw (val_by ∙ t) refl)
 
-  pub write_is : {u : ℕ} {slots' : List ℕ} → w ≡ get_or slots (p + k) 0 → u ≡ cond b w f → slots' ≡ set slots (p + k) u → LeafDone (λ n x. write_s [] x k) p v f slots slots'
-  write_is {u} {slots'} d q r n x masks book g a c =
-      let s = st n slots masks book in
-      on_case (word_bit v k)
-      (λ t. ap (λ (l : List ℕ). st n l masks book) (r ∙ ap (set slots (p + k)) (q ∙ rw (e ∙ t) d) ∙ set-get_or slots (p + k) 0) ∙ write_none a book k h t g)
-      (λ t. write_yes [] x k g s (hidden_is a book k h t) refl (q ∙ rw (e ∙ t) c)
-      (word_step n slots slots' masks book u a.fit (slot_in a book k h) (r ∙ ap (λ (i : ℕ). set slots i u) (place_is a book k h))))
+  pub behind_off : b ≡ false → far_with g ≡ far_with (behind_s [] q.n (seen q slots) q.x k g)
+  unfolding behind_s
+  behind_off t = sym (rw (val_by ∙ t) refl)
 
--- ---- m steps of a loop from the far word f₀ on, which have come to f and slots
-pub record Going (at : ℕ → ℕ) (w : ℕ → ℕ → ℕ → Bool → St → St) (p v f₀ : ℕ) (slots₀ : List ℕ) (m f : ℕ) (slots : List ℕ) (n x : ℕ) (masks book : List ℕ) (g : Bool) : Type 0 where
-  pub sign : Bool
-  pub same : f ≡ far_with sign
-  pub carried : Carried [] n x at (w n x) g (st n slots₀ masks book) m sign (st n slots masks book)
+  pub write_on : b ≡ true → seen q (set slots (p + k) (get_or slots (p + k) 0)) ≡ write_s [] q.x k g (seen q slots)
+  write_on t = ap (seen q) (set-get_or slots (p + k) 0) ∙ write_none slots a k h (sym e ∙ t) g
 
-pub record Along (at : ℕ → ℕ) (w : ℕ → ℕ → ℕ → Bool → St → St) (p v f₀ : ℕ) (slots₀ : List ℕ) (m f : ℕ) (slots : List ℕ) : Type 0 where
-  pub long : length slots ≡ length slots₀
-  pub goes : (n x : ℕ) (masks book : List ℕ) (g : Bool) → LeafAt n x p v slots₀ masks → f₀ ≡ far_with g → Going at w p v f₀ slots₀ m f slots n x masks book g
-
-pub room_kept : {p : ℕ} {slots slots' : List ℕ} → Room p slots → length slots' ≡ length slots → Room p slots'
-room_kept r e = record { low = r.low; there = omega (arith, r.there) }
-
-leaf_kept : {n x p v : ℕ} {slots slots' masks : List ℕ} → LeafAt n x p v slots masks → length slots' ≡ length slots → LeafAt n x p v slots' masks
-leaf_kept a e = record { cell = a.cell; node = a.node; fit = e ∙ a.fit; words = a.words; values = a.values }
-
-module _ (at : ℕ → ℕ) (w : ℕ → ℕ → ℕ → Bool → St → St) {p v f₀ : ℕ} {slots₀ : List ℕ} where
-  pub along_none : Along at w p v f₀ slots₀ 0 f₀ slots₀
-  along_none = record { long = refl; goes = λ n x masks book g a c. record { sign = g; same = c; carried = carry_none _ g _ } }
-
-  pub along_more : {m f f' : ℕ} {slots slots' : List ℕ} → Along at w p v f₀ slots₀ m f slots → LeafSign (λ n s x. behind_s [] n s x (at m)) p v f slots f' → LeafDone
-      (λ n x. w n x (at m)) p v f' slots slots' → length slots' ≡ length slots
-      → Along at w p v f₀ slots₀ (m + 1) f' slots'
-  along_more {m} {f} {f'} {slots} {slots'} q b d l = record {
-    long = l ∙ q.long;
-    goes = λ n x masks book g a c.
-        let t = q.goes n x masks book g a c in
-        let z = leaf_kept a q.long in
-        let y = b n x masks book t.sign z t.same in
-        record { sign = behind_s [] n (st n slots masks book) x (at m) t.sign; same = y; carried = carry_more [] n x at (w n x) g (st n slots₀ masks book) m t.carried refl (d n x masks book _ z y) };
-  }
-
--- ---- all steps
-module _ {p v f₀ f m : ℕ} {slots₀ slots : List ℕ} (d : m ≡ 4) where
-  pub along_z_lem : (i : ℕ) → Along (λ z. i + z) (λ n x. write_s [] x) p v f₀ slots₀ m f slots → LeafDone (λ n x. row_z 2 [] n x i) p v f₀ slots₀ slots
-  along_z_lem i q n x masks book g a c = all_z 0 [] n x d refl (st n slots₀ masks book) i g (q.goes n x masks book g a c).carried
-
-  pub along_y_lem : (i : ℕ) → Along (λ y. i + y * 4) (λ n x. row_z 2 [] n x) p v f₀ slots₀ m f slots → LeafDone (λ n x. row_y 2 [] n x i) p v f₀ slots₀ slots
-  along_y_lem i q n x masks book g a c = all_y 0 [] n x d refl (st n slots₀ masks book) i g (q.goes n x masks book g a c).carried
-
-  pub along_x_lem : {n x : ℕ} {masks : List ℕ} → LeafAt n x p v slots₀ masks → LeafStart p v slots₀ f₀ → Along (λ a. a * 16) (λ n x. row_y 2 [] n x) p v f₀ slots₀ m f slots
-      → (book : List ℕ) → st n slots masks book ≡ rows_m 2 [] n x (st n slots₀ masks book)
-  along_x_lem {n} {x} {masks} a e q book = all_x 0 [] n x d refl (st n slots₀ masks book) refl (q.goes n x masks book _ a (e n x masks book a)).carried
+  pub write_off : b ≡ false → seen q (set slots (p + k) (far_with g)) ≡ write_s [] q.x k g (seen q slots)
+  write_off t = write_yes [] q.x k g (seen q slots) (hidden_is slots a k h (sym e ∙ t)) refl refl
+      (word_step q.n slots _ q.masks q.book (far_with g) a.fit (slot_in slots a k h) (ap (λ (i : ℕ). set slots i (far_with g)) (place_is slots a k h)))
 
 -- ---- "A full node is left as it is"
 carry_same : (f : ℕ → Bool → St → Bool × St) (m : ℕ) (g : Bool) (s : St) → ((j : ℕ) → j < m → (h : Bool) → s ≡ (f j h s).1) → s ≡ (carry_s f m g s).1
@@ -132,25 +86,23 @@ unfolding carry_s
 carry_same f zero g s q = refl
 carry_same f (suc m) g s q = q m (omega arith) (carry_s f m g s).0 ∙ ap (λ (t : St). (f m (carry_s f m g s).0 t).1) (carry_same f m g s (λ j l. q j (omega arith)))
 
-module _ {n x p v : ℕ} {slots masks : List ℕ} (a : LeafAt n x p v slots masks) (e : v ≡ ones) (book : List ℕ) where
-  z_same : (i : ℕ) → i + 4 ≤ 64 → (g : Bool) → st n slots masks book ≡ row_z 2 [] n x i g (st n slots masks book)
+module _ {p v : ℕ} {q : Seen} (slots : List ℕ) (a : LeafShows p v q (length slots)) (e : v ≡ ones) where
+  z_same : (i : ℕ) → i + 4 ≤ 64 → (g : Bool) → seen q slots ≡ row_z 2 [] q.n q.x i g (seen q slots)
   unfolding row_z
-  z_same i l g = carry_same (along_z 2 [] n x i) 4 g (st n slots masks book) (λ j h g. write_none a book (i + j) (omega arith) (ap (λ (w : ℕ). word_bit w (i + j)) e ∙ ones_bit (i + j)) _)
+  z_same i l g = carry_same (along_z 2 [] q.n q.x i) 4 g (seen q slots) (λ j h g. write_none slots a (i + j) (omega arith) (ap (λ (w : ℕ). word_bit w (i + j)) e ∙ ones_bit (i + j)) _)
 
-  y_same : (i : ℕ) → i + 16 ≤ 64 → (g : Bool) → st n slots masks book ≡ row_y 2 [] n x i g (st n slots masks book)
+  y_same : (i : ℕ) → i + 16 ≤ 64 → (g : Bool) → seen q slots ≡ row_y 2 [] q.n q.x i g (seen q slots)
   unfolding row_y
-  y_same i l g = carry_same (along_y 2 [] n x i) 4 g (st n slots masks book) (λ j h g. z_same (i + j * 4) (omega arith) _)
+  y_same i l g = carry_same (along_y 2 [] q.n q.x i) 4 g (seen q slots) (λ j h g. z_same (i + j * 4) (omega arith) _)
 
-  pub full_same : st n slots masks book ≡ rows_m 2 [] n x (st n slots masks book)
+  pub full_same : seen q slots ≡ rows_m 2 [] q.n q.x (seen q slots)
   unfolding rows_m
-  full_same = carry_same (along_x 2 [] n x) 4 _ (st n slots masks book) (λ j h g. y_same (j * 16) (omega arith) _)
+  full_same = carry_same (along_x 2 [] q.n q.x) 4 _ (seen q slots) (λ j h g. y_same (j * 16) (omega arith) _)
 
 -- ---- what the code has of leaf x
-pub leaf_at : {n x : ℕ} {slots masks : List ℕ} → Cells n slots masks → Stands n 0 x → LeafAt n x (4096 + 64 * (x - 8)) (get_or masks (128 + n + (x - 8)) 0) slots masks
+pub leaf_at : {n x : ℕ} {slots masks book : List ℕ} → Cells n slots masks → Stands n 0 x
+    → LeafShows (4096 + 64 * (x - 8)) (get_or masks (128 + n + (x - 8)) 0) (record { n = n; x = x; masks = masks; book = book }) (length slots)
 leaf_at {n} {x} {slots} {masks} c s =
     let h : 8 ≤ x = leaf_cell s refl in
     let q : 128 + n + (x - 8) ≡ 120 + n + x = omega arith in
     record { cell = h; node = s.node; fit = c.slots_fit; words = omega arith; values = ap (λ (i : ℕ). get_or masks i 0) q }
-
-pub room_of_lem : {n x : ℕ} {slots masks : List ℕ} → Cells n slots masks → Stands n 0 x → Room (4096 + 64 * (x - 8)) slots
-room_of_lem {n} {x} {slots} {masks} c s = record { low = omega (arith, c.most, s.node); there = omega (arith, c.slots_fit, s.node, leaf_cell s refl) }

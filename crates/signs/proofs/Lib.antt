@@ -1,5 +1,5 @@
 -- The laws that belong to no one function.
 pub mod SignAt
-pub mod Rows
+pub mod Along
 pub mod LeafRows
 pub mod Fills

@@ -1,24 +1,25 @@
 -- The sign of a slot, the sign behind it, and the first slot that is not hidden, by the level's number as the code goes; a hidden slot written. Assumes nothing.
-use mathlib.Core.Path.{◌≡◌, refl, sym, ap, ◌∙◌}
+use Rattle.std.specs.Prelude.{Option, Some, None}
+use mathlib.Core.Path.{◌≡◌, refl, sym, ap, ◌∙◌, subst}
 use mathlib.Core.Bool.{Bool, true, false, not, cond}
 use mathlib.Core.List.{List}
-use Prim.Native.Nat.{ℕ, zero, suc, ◌+◌, ◌-◌, ◌<◌, ◌≤◌}
+use Prim.Native.Nat.{ℕ, zero, suc, ◌+◌, ◌-◌, ◌*◌, ◌^◌, ◌<◌, ◌≤◌}
 use native.Mathlib.Numerals.{add-one}
 use native.Mathlib.Omega.{arith}
 use lib.ListN.{get_or}
 use borrow.Author.Tests.{not-true, not-false}
 use Rattle.bitset.specs.Set.{bit_of}
 use Rattle.floats.specs.Value.{negative, far_with}
+use Rattle.grid.specs.Node.{size}
 use Rattle.nodes.specs.State.{St}
 use Rattle.nodes.specs.Layout.{st, word_of, val_bit}
-use Rattle.nodes.specs.Range.{In}
-use Rattle.nodes.specs.Walk.{below}
-use Rattle.nodes.specs.declared.walk.Below.{Below}
-use Rattle.nodes.specs.declared.walk.Below.TheVariants.{Go, Stop}
+use Rattle.nodes.specs.Range.{In, Stands}
+use Rattle.nodes.specs.Walk.{branching, below}
 use Rattle.nodes.proofs.States.{st_slot, st_val}
-use Rattle.nodes.proofs.Paths.{one_less}
+use Rattle.nodes.proofs.Paths.{one_less, slot_of_lem}
 use Rattle.trees.specs.Slot.{child_s, child_r, hidden_s, word_s}
 use Rattle.signs.specs.Signs.{sign_s, behind_s, start_s, write_s}
+use Rattle.signs.specs.Seen.{Seen, Sides, UpperShows}
 use Rattle.trees.proofs.Slots.{child_go, child_stop}
 
 -- ---- what the code has read of the lists
@@ -36,14 +37,23 @@ module _ (slots masks book : List ℕ) {n x k : ℕ} (i : In n x k) where
     behind_hidden h = sym (rw (st_val slots masks book i ∙ sym e ∙ h) refl)
 
 -- ---- by what slot k of node x leads to: a, or f of the cell
-module _ {A : Type 0} (n : ℕ) (s : St) (x k : ℕ) (f : ℕ → A) (a : A) {v : A} {r : Below} where
-  pub by_stop : r ≡ Stop → r ≡ child_r n s x k → v ≡ a → v ≡ cond (child_s n s x k) (f (s.slot x k)) a
+module _ {A : Type 0} (n : ℕ) (s : St) (x k : ℕ) (f : ℕ → A) (a : A) {v : A} {r : Option ℕ} where
+  pub by_stop : r ≡ None → r ≡ child_r n s x k → v ≡ a → v ≡ cond (child_s n s x k) (f (s.slot x k)) a
   by_stop d e p = p ∙ sym (rw (child_stop n s x k (sym d ∙ e)) refl)
 
-  pub by_go : {c : ℕ} → r ≡ Go c → r ≡ child_r n s x k → v ≡ f c → v ≡ cond (child_s n s x k) (f (s.slot x k)) a
+  pub by_go : {c : ℕ} → r ≡ Some c → r ≡ child_r n s x k → v ≡ f c → v ≡ cond (child_s n s x k) (f (s.slot x k)) a
   by_go d e p = p ∙ ap f (child_go n s x k (sym d ∙ e)).there ∙ sym (rw (child_go n s x k (sym d ∙ e)).on refl)
 
 -- ---- above the leaves
+pub sides_low : (l : ℕ) → l ≤ 2 → (l ≡ 2 → ⊥) → Sides (branching l) 4
+sides_low zero h d = record { side = refl; face = refl; cube = refl; face_some = omega arith; few = omega arith }
+sides_low (suc zero) h d = record { side = refl; face = refl; cube = refl; face_some = omega arith; few = omega arith }
+sides_low (suc (suc l)) h d = absurd (d (omega arith))
+
+pub in_upper : {n l x k : ℕ} → Stands n l x → k < 2 ^ (3 * branching l) → In n x k
+unfolding size
+in_upper s h = slot_of_lem s refl h
+
 pub no_leaf : {l : ℕ} → 0 < l → l ≡ 0 → ⊥
 no_leaf h e = omega arith
 
@@ -64,17 +74,17 @@ module _ (n : ℕ) (s : St) (l x k : ℕ) {v : Bool} where
   unfolding sign_s
   sign_leaf z p = p ∙ ap (λ (i : ℕ). sign_s (below i) n s x k) (sym z)
 
-  module _ (h : l ≡ 0 → ⊥) {r : Below} where
-    pub sign_flat : r ≡ Stop → r ≡ child_r n s x k → v ≡ negative (s.slot x k) → v ≡ sign_s (below l) n s x k
+  module _ (h : l ≡ 0 → ⊥) {r : Option ℕ} where
+    pub sign_flat : r ≡ None → r ≡ child_r n s x k → v ≡ negative (s.slot x k) → v ≡ sign_s (below l) n s x k
     sign_flat d e p = by_stop n s x k (λ c. sign_s (below (l - 1)) n s (8 + c) 0) (negative (s.slot x k)) d e p ∙ sign_up n s x k l h
 
-    pub sign_down : {c : ℕ} → r ≡ Go c → r ≡ child_r n s x k → v ≡ sign_s (below (l - 1)) n s (8 + c) 0 → v ≡ sign_s (below l) n s x k
+    pub sign_down : {c : ℕ} → r ≡ Some c → r ≡ child_r n s x k → v ≡ sign_s (below (l - 1)) n s (8 + c) 0 → v ≡ sign_s (below l) n s x k
     sign_down d e p = by_go n s x k (λ c. sign_s (below (l - 1)) n s (8 + c) 0) (negative (s.slot x k)) d e p ∙ sign_up n s x k l h
 
-    pub behind_flat : (g : Bool) → r ≡ Stop → r ≡ child_r n s x k → v ≡ behind_s (below 0) n s x k g → v ≡ behind_s (below l) n s x k g
+    pub behind_flat : (g : Bool) → r ≡ None → r ≡ child_r n s x k → v ≡ behind_s (below 0) n s x k g → v ≡ behind_s (below l) n s x k g
     behind_flat g d e p = by_stop n s x k (λ c. sign_s (below (l - 1)) n s (8 + c) 63) (behind_s (below 0) n s x k g) d e p ∙ behind_up n s x k l h g
 
-    pub behind_down : (g : Bool) {c : ℕ} → r ≡ Go c → r ≡ child_r n s x k → v ≡ sign_s (below (l - 1)) n s (8 + c) 63 → v ≡ behind_s (below l) n s x k g
+    pub behind_down : (g : Bool) {c : ℕ} → r ≡ Some c → r ≡ child_r n s x k → v ≡ sign_s (below (l - 1)) n s (8 + c) 63 → v ≡ behind_s (below l) n s x k g
     behind_down g d e p = by_go n s x k (λ c. sign_s (below (l - 1)) n s (8 + c) 63) (behind_s (below 0) n s x k g) d e p ∙ behind_up n s x k l h g
 
 -- ---- the first of m slots that is not hidden, where those before k are hidden
@@ -121,3 +131,11 @@ module _ (bs : List ℕ) (x k : ℕ) (g : Bool) (s : St) {h : Bool} (e : h ≡ h
   pub write_no : h ≡ false → s ≡ write_s bs x k g s
   unfolding write_s
   write_no a = sym (rw (sym e ∙ a) refl)
+
+-- ---- what holds of node x of a pool with these masks, whatever its book, holds of the node that is shown
+pub shown : (P : Seen → Type 0) {n x : ℕ} {masks : List ℕ} → ((book : List ℕ) → P (record { n = n; x = x; masks = masks; book = book })) → (q : Seen) → UpperShows n x masks q → P q
+shown P f q h = subst P (sym h) (f q.book)
+
+pub shown_sign : (P : Seen → Bool → Type 0) {n x : ℕ} {masks : List ℕ} {b : Bool} → ((book : List ℕ) → P (record { n = n; x = x; masks = masks; book = book }) b)
+    → (q : Seen) (g : Bool) → UpperShows n x masks q → b ≡ g → P q g
+shown_sign P {b = b} f q g h e = subst (P q) e (shown (λ (q : Seen). P q b) f q h)

@@ -1,9 +1,8 @@
 -- The sign fill, slot by slot and child first, on any state, sound or not. A sign is carried along three rows: true is negative. Assumes nothing.
-use Rattle.std.specs.Prelude.{◌≡◌, Bool, false, cond, List, [], ◌∷◌, ℕ, zero, suc, ◌+◌, ◌*◌, ◌^◌, ◌<◌, ◌≤◌, length, get_or}
+use Rattle.std.specs.Prelude.{Bool, false, cond, List, [], ◌∷◌, ℕ, zero, suc, ◌+◌, ◌*◌, ◌^◌}
 use Rattle.floats.specs.Value.{negative, far_with}
 use Rattle.grid.specs.Node.{size}
 use Rattle.nodes.specs.State.{St}
-use Rattle.nodes.specs.Layout.{st, slots_length}
 use Rattle.nodes.specs.Each.{each_s}
 use Rattle.trees.specs.Slot.{child_s, hidden_s, word_s}
 
@@ -62,29 +61,3 @@ down_s go n x k s = cond (child_s n s x k) (go (8 + s.slot x k) s) s
 unfoldable pub fill_signs_m : (b : ℕ) (bs : List ℕ) → ℕ → ℕ → St → St
 fill_signs_m b [] n x s = rows_m b [] n x s
 fill_signs_m b (c ∷ bs) n x s = rows_m b (c ∷ bs) n x (each_s (down_s (fill_signs_m c bs n) n x) (size b) s)
-
--- ---- a leaf as one piece: its words are those from place p on, v has its value bits, and a sign is the far word w that has it
-
--- the words are there
-pub record Room (p : ℕ) (slots : List ℕ) : Type 0 where
-  pub low : p < 0x1_0000_0000
-  pub there : p + 64 ≤ length slots
-
-pub record LeafAt (n x p v : ℕ) (slots masks : List ℕ) : Type 0 where
-  pub cell : 8 ≤ x
-  pub node : x < 8 + n
-  pub fit : length slots ≡ slots_length n
-  pub words : p ≡ 3584 + 64 * x
-  pub values : v ≡ get_or masks (120 + n + x) 0
-
--- w has the sign from which the rows start
-abbrev pub LeafStart : ℕ → ℕ → List ℕ → ℕ → Type 0
-LeafStart p v slots w = (n x : ℕ) (masks book : List ℕ) → LeafAt n x p v slots masks → w ≡ far_with (start_s [] n (st n slots masks book) x 0 (size 2))
-
--- w' has the sign that f gives, from that of w
-abbrev pub LeafSign : (ℕ → St → ℕ → Bool → Bool) → ℕ → ℕ → ℕ → List ℕ → ℕ → Type 0
-LeafSign f p v w slots w' = (n x : ℕ) (masks book : List ℕ) (g : Bool) → LeafAt n x p v slots masks → w ≡ far_with g → w' ≡ far_with (f n (st n slots masks book) x g)
-
--- the words have become what f makes of them, from the sign of w
-abbrev pub LeafDone : (ℕ → ℕ → Bool → St → St) → ℕ → ℕ → ℕ → List ℕ → List ℕ → Type 0
-LeafDone f p v w slots slots' = (n x : ℕ) (masks book : List ℕ) (g : Bool) → LeafAt n x p v slots masks → w ≡ far_with g → st n slots' masks book ≡ f n x g (st n slots masks book)

@@ -2,3 +2,5 @@
 #![tactic(auto)]
 
 pub mod fill;
+mod leaf;
+mod rows;

@@ -6,13 +6,14 @@ use mathlib.Core.List.{List}
 use Prim.Native.Nat.{ℕ, ◌+◌, ◌*◌, ◌/◌, ◌%◌, ◌<◌, ◌≤◌}
 use native.Mathlib.Omega.{arith}
 use native.Mathlib.Numerals.{add-one}
-use lib.ListN.{get_or}
+use lib.ListN.{length, get_or}
+use Rattle.std.specs.List.{fold}
 use lib.Bits.{bit_or}
-use borrow.Author.Tests.{lt-ltb, ltb-true}
+use borrow.Author.Tests.{ltb-true}
 use borrow.Table.Steps.{cases}
 use Rattle.floats.specs.Value.{is_finite, negative}
 use Rattle.floats.proofs.Signs.{negative_or}
-use Rattle.floats.proofs.Finite.{small_finite}
+use Rattle.floats.proofs.Finite.{small_finite, raised_sign}
 use Rattle.bitset.specs.Set.{every, word_bit, bit_of}
 use Rattle.bitset.proofs.Digits.{lt_or_le}
 use Rattle.bitset.proofs.Sets.{has_own}
@@ -20,13 +21,15 @@ use Rattle.bitset.proofs.Every.{both_ways, and_both, every_intro, every_elim, ev
 use Rattle.nodes.specs.State.{St, wide}
 use Rattle.nodes.specs.Layout.{st, word_of, kid_bit, slots_length}
 use Rattle.nodes.specs.Range.{In}
-use Rattle.nodes.specs.Test.{fork_b, link_b}
+use Rattle.nodes.specs.Test.{link_b}
 use Rattle.nodes.proofs.Places.{wide_top, wide_cell, word_top, word_cell, word_lt}
 use Rattle.nodes.proofs.States.{st_slot, st_kid}
+use Rattle.sound.proofs.Chains.{fold_all}
+use Rattle.sound.proofs.Checks.{node_fork, node_leaf}
+use Rattle.nodes.specs.Test.{fork_b, live_b, node_b}
 use Rattle.sound.specs.Slots.{group, value_b, branch_b, either_b}
-use Rattle.sound.proofs.Checks.{passed, failed}
 
--- a loop that tests each number up to the last: a is the answer so far
+-- a chain that tests each number up to the last: a is the answer so far
 pub none_yet : (p : ℕ → Bool) → true ≡ every p 0
 unfolding every
 none_yet p = refl
@@ -35,25 +38,32 @@ pub one_more : (p : ℕ → Bool) (i : ℕ) {r a b : Bool} → r ≡ b && a → 
 unfolding every
 one_more p i e f g = e ∙ ap₂ (λ (b a : Bool). b && a) f g ∙ ap (every p) (sym (add-one i))
 
-pub at_end : (p : ℕ → Bool) (n i : ℕ) {a : Bool} → i ≤ n → n ≤ i → a ≡ every p i → a ≡ every p n
-at_end p n i h l e = let q : i ≡ n = omega arith in e ∙ ap (every p) q
+-- words are joined bit by bit, each raised: the sign tells that one of them is not finite
+abbrev pub join : ℕ → ℕ → ℕ
+join v w = bit_or v (w % 2147483648 + 8388608)
 
--- the same with words joined bit by bit, v so far: the sign of w tells that number i does not pass
-pub no_sign : (p : ℕ → Bool) → not (negative 0) ≡ every p 0
-unfolding every negative
-no_sign p = refl
+neither : (a b : Bool) → not (a || b) ≡ not b && not a
+neither true true = refl
+neither true false = refl
+neither false true = refl
+neither false false = refl
 
-pub sign_more : (p : ℕ → Bool) (i v w : ℕ) → not (negative w) ≡ p i → not (negative v) ≡ every p i → not (negative (bit_or v w)) ≡ every p (i + 1)
-sign_more p i v w = one_more p i (ap not (negative_or v w) ∙ neither (negative v) (negative w))
-  where
-    neither : (a b : Bool) → not (a || b) ≡ not b && not a
-    neither true true = refl
-    neither true false = refl
-    neither false true = refl
-    neither false false = refl
+module _ (ws : List ℕ) where
+  abbrev passes : ℕ → Bool
+  passes i = is_finite (get_or ws i 0)
+
+  none_joined : not (negative 0) ≡ every passes 0
+  unfolding every negative
+  none_joined = refl
+
+  joined : (i v : ℕ) → i < length ws → not (negative v) ≡ every passes i → not (negative (join v (get_or ws i 0))) ≡ every passes (i + 1)
+  joined i v l = one_more passes i (ap not (negative_or v _) ∙ neither (negative v) _) (raised_sign (get_or ws i 0))
+
+  pub join_every : (n : ℕ) → length ws ≡ n → not (negative (fold join 0 ws)) ≡ every passes n
+  join_every n e = fold_all 0 join 0 (λ i v. not (negative v) ≡ every passes i) ws joined none_joined ∙ ap (every passes) e
 
 -- each group passes where each slot does
-pub groups : (p : ℕ → Bool) (m : ℕ) → every (group p) m ≡ every p (64 * m)
+groups : (p : ℕ → Bool) (m : ℕ) → every (group p) m ≡ every p (64 * m)
 groups p m =
     both_ways (every (group p) m) (every p (64 * m))
     (λ e. every_intro p (64 * m) (λ k l.
@@ -61,31 +71,16 @@ groups p m =
     ap p (sym i) ∙ every_elim (λ i. p (64 * (k / 64) + i)) 64 (every_elim (group p) m e (k / 64) (omega arith)) (k % 64) (omega arith)))
     (λ e. every_intro (group p) m (λ j l. every_intro (λ i. p (64 * j + i)) 64 (λ i h. every_elim p (64 * m) e (64 * j + i) (omega arith))))
 
--- of a node; a node that may have no branches is a cell, and so one group
-pub node_groups : (p : ℕ → Bool) (x : ℕ) → every (group p) (wide x / 64) ≡ every p (wide x)
-node_groups p x = groups p (wide x / 64) ∙ ap (every p) (elim (lt_or_le x 8) [
-  | inl h ↦ omega (arith, wide_top x h)
-  | inr h ↦ omega (arith, wide_cell x h)
-])
+-- of a top, and of a cell
+pub top_groups : (p : ℕ → Bool) (t : ℕ) → t < 8 → every (group p) 8 ≡ every p (wide t)
+top_groups p t h = groups p 8 ∙ ap (every p) (sym (wide_top t h))
 
-pub leaf_group : (p : ℕ → Bool) (s : St) (x : ℕ) → fork_b s x ≡ false → group p 0 ≡ every p (wide x)
-leaf_group p s x f =
+pub cell_group : (p : ℕ → Bool) (c : ℕ) → group p 0 ≡ every p (wide (8 + c))
+cell_group p c =
     every_alike (λ i. p (64 * 0 + i)) p 64 (λ i h. let e : 64 * 0 + i ≡ i = omega arith in ap p e)
-    ∙ elim (lt_or_le x 8) [
-      | inl h ↦ absurd (false≢true (sym f ∙ rw (lt-ltb x 8 h) refl))
-      | inr h ↦ ap (every p) (sym (wide_cell x h))
-    ]
+    ∙ ap (every p) (sym (wide_cell (8 + c) (omega arith)))
 
 -- ---- where a group stands
-pub first_in : {n x : ℕ} → x < 8 + n → In n x (64 * 0)
-first_in {n} {x} h = record {
-  node = h;
-  slot = elim (lt_or_le x 8) [
-    | inl a ↦ omega (arith, wide_top x a)
-    | inr a ↦ omega (arith, wide_cell x a)
-  ];
-}
-
 module _ {n x : ℕ} (j : ℕ) (h : In n x (64 * j)) where
   pub in_group : (i : ℕ) → i < 64 → In n x (64 * j + i)
   in_group i l = record { node = h.node; slot = within (lt_or_le x 8) }
@@ -125,11 +120,25 @@ module _ (n : ℕ) (s : St) (x j : ℕ) (a : Bool) (e : a ≡ group (value_b s x
       (λ q. small_finite (s.slot x k) (omega (arith, ltb-true (s.slot x k) n (and_both _ _ (rw q at t)).0, h)))
       (λ q. rw q at t)
 
-  pub values_fail : n < 65536 → not a ≡ true → false ≡ group (either_b n s x) j
+  pub values_fail : n < 65536 → a ≡ false → false ≡ group (either_b n s x) j
   values_fail h f = cases (group (either_b n s x) j)
-      (λ t. absurd (false≢true (sym (failed a e f) ∙ every_intro (λ i. value_b s x (64 * j + i)) 64 (λ i l. link_finite h (64 * j + i) (every_elim (λ i. either_b n s x (64 * j + i)) 64 t i l)))))
+      (λ t. absurd (false≢true (sym f ∙ e ∙ every_intro (λ i. value_b s x (64 * j + i)) 64 (λ i l. link_finite h (64 * j + i) (every_elim (λ i. either_b n s x (64 * j + i)) 64 t i l)))))
       (λ t. sym t)
 
-  pub values_pass : not a ≡ false → (r : Bool) → r ≡ group (branch_b n s x) j → r ≡ group (either_b n s x) j
+  pub values_pass : a ≡ true → (r : Bool) → r ≡ group (branch_b n s x) j → r ≡ group (either_b n s x) j
   values_pass f r q = q ∙ every_alike (λ i. branch_b n s x (64 * j + i)) (λ i. either_b n s x (64 * j + i)) 64
-      (λ i l. ap (λ (b : Bool). cond (s.kid x (64 * j + i)) (link_b n s x (64 * j + i)) b) (sym (every_elim (λ i. value_b s x (64 * j + i)) 64 (passed a e f) i l)))
+      (λ i l. ap (λ (b : Bool). cond (s.kid x (64 * j + i)) (link_b n s x (64 * j + i)) b) (sym (every_elim (λ i. value_b s x (64 * j + i)) 64 (sym e ∙ f) i l)))
+
+-- ---- cell c, which is used
+module _ (n : ℕ) (s : St) (c : ℕ) (l : live_b s (8 + c) ≡ true) (a : Bool) (e : a ≡ group (value_b s (8 + c)) 0) where
+  pub cell_fails : n < 65536 → a ≡ false → false ≡ node_b n s (8 + c)
+  cell_fails most f = cases (fork_b s (8 + c))
+      (λ t. node_fork n s (8 + c) t false (values_fail n s (8 + c) 0 a e most f ∙ cell_group (either_b n s (8 + c)) c))
+      (λ t. node_leaf n s (8 + c) t l false (sym f ∙ e ∙ cell_group (value_b s (8 + c)) c))
+
+  module _ (p : a ≡ true) where
+    pub leaf_passes : fork_b s (8 + c) ≡ false → true ≡ node_b n s (8 + c)
+    leaf_passes f = node_leaf n s (8 + c) f l true (sym p ∙ e ∙ cell_group (value_b s (8 + c)) c)
+
+    pub middle_says : fork_b s (8 + c) ≡ true → (r : Bool) → r ≡ group (branch_b n s (8 + c)) 0 → r ≡ node_b n s (8 + c)
+    middle_says f r q = node_fork n s (8 + c) f r (values_pass n s (8 + c) 0 a e p r q ∙ cell_group (either_b n s (8 + c)) c)

@@ -6,5 +6,6 @@ pub mod Tally
 pub mod Counted
 pub mod Links
 pub mod Checks
+pub mod Chains
 pub mod Own
 pub mod Groups

@@ -1,12 +1,12 @@
 -- What preparing writes, from the words of each slice to the state. Assumes nothing.
-use mathlib.Core.Path.{◌≡◌, refl, sym, ap, ◌∙◌, subst}
+use mathlib.Core.Path.{◌≡◌, refl, sym, ap, ◌∙◌}
 use mathlib.Core.Bool.{Bool, false, ◌&&◌, ◌||◌}
 use mathlib.Core.List.{List}
 use mathlib.Core.Logic.{◌⊎◌, inl, inr}
 use Prim.Native.Nat.{ℕ, ◌+◌, ◌-◌, ◌*◌, ◌<◌, ◌≤◌}
 use native.Mathlib.Omega.{arith}
 use lib.Dec.{ltb, leb}
-use lib.ListN.{length, get_or, set, length-set}
+use lib.ListN.{length, get_or, set}
 use lib.Seq.{get_or-set_same, get_or-set_other, length-take-le}
 use borrow.Author.Tests.{lt-ltb, le-ltb, le-leb, lt-leb, ltb-true}
 use borrow.Rule.Slice.PartMut.{put_mid, same_len_mid}
@@ -14,7 +14,7 @@ use Rattle.floats.specs.Value.{is_finite, far}
 use Rattle.floats.proofs.Finite.{finite_far, small_finite}
 use Rattle.floats.proofs.Words.{on_case}
 use Rattle.bitset.specs.Set.{bit_of}
-use Rattle.bitset.proofs.Digits.{lt_or_le, is_or_not}
+use Rattle.bitset.proofs.Digits.{lt_or_le}
 use Rattle.bitset.proofs.Every.{and_both}
 use Rattle.bitset.proofs.Parts.{bit_put}
 use Rattle.nodes.specs.State.{St, wide}
@@ -28,33 +28,6 @@ use Rattle.means.specs.Unspoilt.{Unspoilt}
 use Rattle.means.proofs.Unspoilt.{still_equal}
 use Rattle.sound.specs.Runs.{Run, Emptied, Freed}
 use Rattle.sound.proofs.Book.{st_count, st_tag, st_stack, st_mark}
-
--- ---- a run of words, written from its first on
-pub run_none : (lo : ℕ) (f : ℕ → ℕ) (l : List ℕ) → Run lo 0 f l l
-run_none lo f l = record { long = refl; here = λ j a b. absurd (omega arith); other = λ j h. refl }
-
-pub run_more : {lo i : ℕ} {f : ℕ → ℕ} {l₀ l : List ℕ} → Run lo i f l₀ l → lo + i < length l → Run lo (i + 1) f l₀ (set l (lo + i) (f i))
-run_more {lo} {i} {f} {l₀} {l} r h =
-    record {
-      long = length-set l (lo + i) (f i) ∙ r.long;
-      here = λ j a b. elim (is_or_not j (lo + i)) [
-        | inl e ↦ let d : i ≡ j - lo = omega arith in ap (λ (k : ℕ). get_or (set l (lo + i) (f i)) k 0) e ∙ get_or-set_same l (lo + i) (f i) 0 h ∙ ap f d
-        | inr e ↦ get_or-set_other l (lo + i) j (f i) 0 e ∙ r.here j a (omega arith)
-      ];
-      other = λ j o. get_or-set_other l (lo + i) j (f i) 0 (apart j o) ∙ r.other j (wider j o);
-    }
-  where
-    apart : (j : ℕ) → (j < lo) ⊎ (lo + (i + 1) ≤ j) → j ≡ lo + i → ⊥
-    apart j (inl q) e = omega arith
-    apart j (inr q) e = omega arith
-
-    wider : (j : ℕ) → (j < lo) ⊎ (lo + (i + 1) ≤ j) → (j < lo) ⊎ (lo + i ≤ j)
-    wider j (inl q) = inl q
-    wider j (inr q) = inr (omega arith)
-
--- the loop is at the end of the run
-pub run_all : {lo i : ℕ} (len : ℕ) {f : ℕ → ℕ} {l₀ l : List ℕ} → Run lo i f l₀ l → i ≤ len → len ≤ i → Run lo len f l₀ l
-run_all {lo} {i} len {f} {l₀} {l} r a b = let e : i ≡ len = omega arith in subst (λ (m : ℕ). Run lo m f l₀ l) e r
 
 -- ---- the masks: a part whose bits are all off is put back
 module _ (ws ys : List ℕ) (a n : ℕ) (fits : a + n ≤ length ws) (long : length ys ≡ n) (none : (i : ℕ) → bit_of ys i ≡ false) where

@@ -14,7 +14,7 @@ use Rattle.means.proofs.Sums.{sum_one, sum_swap}
 use Rattle.sound.specs.Links.{tally}
 
 -- ---- all n pass where n pass
-tally_most : (p : ℕ → Bool) (n : ℕ) → tally p n ≤ n
+pub tally_most : (p : ℕ → Bool) (n : ℕ) → tally p n ≤ n
 unfolding sum
 tally_most p zero = omega arith
 tally_most p (suc n) = cases (p n) (λ e. rw e (omega (arith, tally_most p n))) (λ e. rw e (omega (arith, tally_most p n)))

@@ -3,3 +3,4 @@ pub mod Runs
 pub mod Slots
 pub mod Own
 pub mod Links
+pub mod Whole

@@ -1,32 +1,25 @@
 // The test of the lent lengths.
-ghost use Rattle.std.specs.Prelude.{◌≡◌, cond, length};
+ghost use Rattle.std.specs.Prelude.{◌≡◌, ◌&&◌, cond, length, ltb, eqb, Some, None};
 ghost use Rattle.means.specs.Mem.{Mem, fits, cells_of};
+ghost use Rattle.nodes.specs.Layout.{slots_length, masks_length, book_length};
 
 use nodes::memory::{BOTH_TOP_MASKS, CELL, HEAD, TOPS};
 
-// The slots of a pool of one cell.
-const LEAST: usize = TOPS + CELL;
-
-// The number of cells, from 1 to 65,535, for which three slices of these lengths belong together, and 0 where there is none. The length of the slots alone gives the
-// only number that there can be.
-pub fn cells(slots: usize, masks: usize, book: usize) -> usize
-    ensures { (m : Mem) → length m.slots ≡ slots → length m.masks ≡ masks → length m.book ≡ book → result ≡ cond (fits m) (cells_of m) 0 }
+// The lengths are those of a pool of n cells, from 1 to 65,535.
+fn fit(n: usize, slots: usize, masks: usize, book: usize) -> bool
+    ensures { result ≡ (ltb 0 n && (ltb n 65536 && (eqb slots (slots_length n) && (eqb masks (masks_length n) && eqb book (book_length n))))) }
 {
-    if slots < LEAST {
-        return 0;
-    }
-    let n = (slots - TOPS) / CELL;
-    if 65535 < n {
-        return 0;
-    }
-    if slots != TOPS + CELL * n {
-        return 0;
-    }
-    if masks != BOTH_TOP_MASKS + 2 * n {
-        return 0;
-    }
-    if book != HEAD + 2 * n {
-        return 0;
-    }
-    n
+    0 < n
+        && n < 65536
+        && slots == TOPS + CELL * n
+        && masks == BOTH_TOP_MASKS + 2 * n
+        && book == HEAD + 2 * n
+}
+
+// The number of cells for which three slices of these lengths belong together. The length of the slots alone gives the only number that there can be.
+pub fn cells(slots: usize, masks: usize, book: usize) -> Option<usize>
+    ensures { (m : Mem) → length m.slots ≡ slots → length m.masks ≡ masks → length m.book ≡ book → result ≡ cond (fits m) (Some (cells_of m)) None }
+{
+    let n = slots.saturating_sub(TOPS) / CELL;
+    fit(n, slots, masks, book).then_some(n)
 }

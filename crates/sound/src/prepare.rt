@@ -14,11 +14,7 @@ fn fill(ws: &mut [u32], lo: usize, len: usize, w: u32)
     requires { lo + len ≤ length ws.old }
     ensures { Run lo len (λ i. w) ws.old ws.new }
 {
-    let mut i = 0;
-    while i < len {
-        ws[lo + i] = w;
-        i += 1;
-    }
+    ws[lo..lo + len].fill(w);
 }
 
 // The len words from lo on become 0, 1, 2 and so on.
@@ -26,10 +22,8 @@ fn count_up(ws: &mut [u32], lo: usize, len: usize)
     requires { (lo + len ≤ length ws.old) × (len < 65536) }
     ensures { Run lo len (λ i. i) ws.old ws.new }
 {
-    let mut i = 0;
-    while i < len {
-        ws[lo + i] = i as u32;
-        i += 1;
+    for (i, w) in ws[lo..lo + len].iter_mut().enumerate() {
+        *w = i as u32;
     }
 }
 

@@ -1,17 +1,17 @@
 -- One tree copied to another node: a node as one piece, and its branches one after the other. Assumes nothing.
+use Rattle.std.specs.Prelude.{Some, None}
 use mathlib.Core.Path.{◌≡◌, refl, sym, ap, ◌∙◌, subst}
 use mathlib.Core.Logic.{inl, inr}
-use mathlib.Core.Bool.{Bool, true, false, not, cond, ◌&&◌, false≢true}
+use mathlib.Core.Bool.{Bool, true, false, cond, ◌&&◌, false≢true}
 use mathlib.Core.List.{List}
 use Prim.Native.Nat.{ℕ, zero, suc, ◌+◌, ◌-◌, ◌*◌, ◌/◌, ◌%◌, ◌^◌, ◌<◌, ◌≤◌}
-use native.Mathlib.Numerals.{add-one}
 use native.Mathlib.Omega.{arith}
 use native.Mathlib.Nat.{mod-lt}
 use lib.ListN.{length, get_or, set, length-set}
 use lib.Dec.{ltb, eqb}
 use lib.Count.{count_leading_zeros}
 use lib.Pow.{pow_pos}
-use borrow.Author.Tests.{lt-ltb, le-ltb, eq-eqb, ne_eqb, not-true, not-false}
+use borrow.Author.Tests.{lt-ltb, le-ltb, eq-eqb, ne_eqb}
 use Rattle.bitset.specs.Set.{bit_of, word_bit}
 use Rattle.bitset.proofs.Digits.{lt_or_le, is_or_not}
 use Rattle.bitset.proofs.Words.{zero_bit, bit_rem, shl_bit, shl_bit_out}
@@ -25,10 +25,12 @@ use Rattle.nodes.specs.Range.{In}
 use Rattle.nodes.specs.Each.{each_s}
 use Rattle.nodes.specs.Walk.{branching, below, ready_s}
 use Rattle.nodes.proofs.Places.{spread, spread_in, spread_same, spread_one, spread_group, word_cell, wide_cell, word_lt, word_from, wide_groups}
-use Rattle.nodes.proofs.Changes.{st_ext, get_d_set}
+use Rattle.nodes.proofs.Changes.{st_ext}
 use Rattle.nodes.proofs.States.{st_kid}
 use Rattle.nodes.proofs.Paths.{one_less, low_size}
 use Rattle.nodes.proofs.Each.{each_more, each_skip}
+use Rattle.trees.specs.Slot.{child_r}
+use Rattle.trees.proofs.Slots.{child_go, child_stop}
 use Rattle.trees.specs.Copy.{laid, lay_s, branch_at, branch_m, copy_m}
 
 -- ---- of the places of group g, of 64, the first m are given the values a
@@ -70,30 +72,6 @@ module _ {A : Type 0} (f : ℕ → A) (g : ℕ) (a : ℕ → A) where
     | inl e ↦ rw (eq-eqb (i / 64) g e, lt-ltb (i % 64) 64 (omega arith)) refl
     | inr e ↦ rw (ne_eqb (i / 64) g e) refl
   ]
-
--- ---- the words: the loop that gives group g the words a, of which i are done
-pub record Given (g : ℕ) (a : ℕ → ℕ) (l₀ l : List ℕ) (i : ℕ) : Type 0 where
-  pub long : length l ≡ length l₀
-  pub words : (p : ℕ) → get_or l p 0 ≡ first (λ q. get_or l₀ q 0) g a i p
-
-pub given_none : (g : ℕ) (a : ℕ → ℕ) (l : List ℕ) → Given g a l l 0
-given_none g a l = record { long = refl; words = first_none (λ q. get_or l q 0) g a }
-
-module _ {g : ℕ} {a : ℕ → ℕ} {l₀ l : List ℕ} {i : ℕ} (d : Given g a l₀ l i) where
-  -- word i of any group is as it was
-  pub given_left : (p h : ℕ) → p ≡ 64 * h + i → i < 64 → get_or l p 0 ≡ get_or l₀ (64 * h + i) 0
-  given_left p h e m = ap (λ (q : ℕ). get_or l q 0) e ∙ d.words (64 * h + i) ∙ first_left (λ q. get_or l₀ q 0) g a i h m
-
-  pub given_more : (p v : ℕ) → p ≡ 64 * g + i → v ≡ a i → p < length l₀ → i < 64 → Given g a l₀ (set l p v) (i + 1)
-  given_more p v e e' b m = record {
-    long = length-set l p v ∙ d.long;
-    words = λ q.
-        get_d_set l p v (omega (arith, d.long)) q ∙ (λ z. cond (eqb q (e z)) (e' z) (d.words q z))
-        ∙ first_more (λ q. get_or l₀ q 0) g a i m q ∙ sym (rw add-one refl);
-  }
-
-  pub given_all : i ≡ 64 → (p : ℕ) → get_or l p 0 ≡ cond (eqb (p / 64) g) (a (p % 64)) (get_or l₀ p 0)
-  given_all e p = d.words p ∙ ap (λ (m : ℕ). first (λ q. get_or l₀ q 0) g a m p) e ∙ first_all (λ q. get_or l₀ q 0) g a p
 
 -- ---- the masks: the bits of word h
 pub word_at : (mk : List ℕ) (h j : ℕ) → word_bit (get_or mk h 0) j ≡ bit_of mk (64 * h + j % 64)
@@ -246,9 +224,9 @@ module _ (n : ℕ) (sl mk sl₁ mk₁ : List ℕ) (x y g h j : ℕ) (wx : (k : �
     (ix : In n x (64 * j + 63)) (iy : In n y (64 * j + 63)) where
   pub group_laid : (sl' mk' : List ℕ) → ((i : ℕ) → get_or sl' i 0 ≡ cond (eqb (i / 64) (h + j)) (get_or sl₁ (64 * (g + j) + i % 64) 0) (get_or sl₁ i 0))
       → ((i : ℕ) → bit_of mk' i ≡ cond (eqb (i / 64) (64 + n + (h + j))) (bit_of mk₁ (64 * (64 + n + (g + j)) + i % 64)) (cond (eqb (i / 64) (h + j)) false (bit_of mk₁ i)))
-      → (book : List ℕ) → st n sl₁ mk₁ book ≡ lay_s (64 * j) x y (st n sl mk book) → st n sl' mk' book ≡ lay_s (64 * (j + 1)) x y (st n sl mk book)
+      → (book book' : List ℕ) → st n sl₁ mk₁ book' ≡ lay_s (64 * j) x y (st n sl mk book) → st n sl' mk' book' ≡ lay_s (64 * (j + 1)) x y (st n sl mk book)
   unfolding lay_s st
-  group_laid sl' mk' p q book e =
+  group_laid sl' mk' p q book book' e =
       let s = st n sl mk book in
       let b : h + j < 64 + n = omega (arith, wy (64 * j + 63), word_lt iy) in
       st_ext _ _
@@ -256,7 +234,7 @@ module _ (n : ℕ) (sl mk sl₁ mk₁ : List ℕ) (x y g h j : ℕ) (wx : (k : �
       (laid_more y (λ _. false) s.kid n false h j wy iy (bit_of mk₁) (bit_of mk') (λ _. false) (λ z k. ap (λ (t : St). t.kid z k) e)
       (λ _ _. refl) (λ i l. q i ∙ rw (ne_eqb (i / 64) (64 + n + (h + j)) (λ o. omega arith)) refl))
       (laid_copied y s.val x n false h g j wy wx iy ix (λ i. bit_of mk₁ (64 * (64 + n) + i)) (λ i. bit_of mk' (64 * (64 + n) + i)) (λ z k. ap (λ (t : St). t.val z k) e) (λ i _. value b i))
-      refl (λ _. refl) (λ _. refl) (λ _. refl)
+      (ap (λ (t : St). t.count) e) (λ i. ap (λ (t : St). t.stack i) e) (λ i. ap (λ (t : St). t.tag i) e) (λ i. ap (λ (t : St). t.mark i) e)
     where
       value : h + j < 64 + n → (i : ℕ) → bit_of mk' (64 * (64 + n) + i) ≡ cond (eqb (i / 64) (h + j)) (bit_of mk₁ (64 * (64 + n) + (64 * (g + j) + i % 64))) (bit_of mk₁ (64 * (64 + n) + i))
       value b i =
@@ -278,27 +256,24 @@ pub cell_slots : {n c : ℕ} → c < n → wide (8 + c) ≡ 64
 cell_slots {n} {c} h = wide_cell (8 + c) (omega arith)
 
 -- ---- one branch, where l is the level below
-module _ (n l x y k : ℕ) (s : St) {b : Bool} (e : b ≡ s.kid x k) where
+module _ (n l x y k : ℕ) (s : St) where
   abbrev After : St → Type 0
   After t = t ≡ branch_at (copy_m (branching l) (below l) n) n x y k s
 
-  pub branch_none : not b ≡ true → After s
-  branch_none h = sym (rw (sym e ∙ not-true b h) refl)
+  pub branch_none : None ≡ child_r n s x k → After s
+  branch_none e = sym (rw (child_stop n s x k e) refl)
 
-  module _ (h : not b ≡ false) {c : ℕ} (f : c ≡ s.slot x k) where
-    pub branch_out : n ≤ c → After s
-    branch_out o = sym (rw (sym e ∙ not-false b h, le-ltb (s.slot x k) n (subst (λ (i : ℕ). n ≤ i) f o)) refl)
+  module _ {c : ℕ} (e : Some c ≡ child_r n s x k) {r : Bool} (g : r ≡ ready_s n s) where
+    pub branch_full : r ≡ false → After s
+    branch_full o = let d = child_go n s x k e in sym (rw (d.on, sym g ∙ o) refl)
 
-    module _ (i : c < n) {r : Bool} (g : r ≡ ready_s n s) where
-      pub branch_full : not r ≡ true → After s
-      branch_full o = sym (rw (sym e ∙ not-false b h, lt-ltb (s.slot x k) n (subst (λ (i : ℕ). i < n) f i), sym g ∙ not-true r o) refl)
-
-      pub branch_down : not r ≡ false → {d : ℕ} {s₁ s₂ s₃ : St} → l ≤ 1 → s₁ ≡ claim_s y k s → d ≡ next s → s₂ ≡ lay_s 64 (8 + c) (8 + d) s₁
-          → s₃ ≡ branch_m (branching l) (below l) n (8 + c) (8 + d) s₂ → After s₃
-      branch_down o {d} {s₁} {s₂} {s₃} m p q u v =
-          v ∙ ap (branch_m (branching l) (below l) n (8 + c) (8 + d)) u
-          ∙ (λ z. branch_m (branching l) (below l) n (8 + f z) (8 + q z) (lay_s (low_size l m z) (8 + f z) (8 + q z) (p z)))
-          ∙ sym (rw (sym e ∙ not-false b h, lt-ltb (s.slot x k) n (subst (λ (i : ℕ). i < n) f i), sym g ∙ not-false r o) refl)
+    pub branch_down : r ≡ true → l ≤ 1 → {d : ℕ} {s₁ s₂ s₃ : St} → s₁ ≡ claim_s y k s → d ≡ next s → s₂ ≡ lay_s 64 (8 + c) (8 + d) s₁ → s₃ ≡ branch_m (branching l) (below l) n (8 + c) (8 + d) s₂
+        → After s₃
+    branch_down o m {d} p q u v =
+        let f = child_go n s x k e in
+        v ∙ ap (branch_m (branching l) (below l) n (8 + c) (8 + d)) u
+        ∙ (λ z. branch_m (branching l) (below l) n (8 + f.there z) (8 + q z) (lay_s (low_size l m z) (8 + f.there z) (8 + q z) (p z)))
+        ∙ sym (rw (f.on, sym g ∙ o) refl)
 
 -- a leaf has none
 pub no_branch : (n l x y : ℕ) (s : St) → l ≡ 0 → s ≡ branch_m (branching l) (below l) n x y s

@@ -21,19 +21,8 @@ use Rattle.nodes.specs.Each.{each_s}
 use Rattle.nodes.specs.Walk.{branching, below}
 use Rattle.nodes.proofs.Places.{spread_same, wide_cell}
 use Rattle.nodes.proofs.Changes.{st_ext}
-use Rattle.trees.specs.Combine.{join_o, join_s, combine_m}
-use Rattle.trees.specs.declared.take.Join.{Join}
-use Rattle.trees.proofs.Copies.{Given, given_left, given_more, word_at, blent, blent_none, blent_more, leaf_words, leaf_values}
-
--- ---- the words
-pub words_as : (v w : ℕ) {j i : Join} {r : ℕ} → j ≡ i → r ≡ joined (join_o i) v w → r ≡ joined (join_o j) v w
-words_as v w e p = p ∙ ap (λ (h : Join). joined (join_o h) v w) (sym e)
-
--- the loop that joins group h into group g, of which i are done
-pub joined_more : (o : Operation) (h p q : ℕ) {g : ℕ} {l₀ l : List ℕ} {i v : ℕ} → Given g (λ r. joined o (get_or l₀ (64 * g + r) 0) (get_or l₀ (64 * h + r) 0)) l₀ l i
-    → v ≡ joined o (get_or l p 0) (get_or l q 0) → p ≡ 64 * g + i → q ≡ 64 * h + i → p < length l₀ → i < 64
-    → Given g (λ r. joined o (get_or l₀ (64 * g + r) 0) (get_or l₀ (64 * h + r) 0)) l₀ (set l p v) (i + 1)
-joined_more o h p q {g} {v = v} d e a b l m = given_more d p v a (e ∙ (λ z. joined o (given_left d p g a m z) (given_left d q h b m z))) l m
+use Rattle.trees.specs.Combine.{join_s, combine_m}
+use Rattle.trees.proofs.Copies.{word_at, blent, blent_none, blent_more, leaf_words, leaf_values}
 
 -- ---- the masks: word q has the bits of word h too
 pub masks_joined : (mk : List ℕ) (q h : ℕ) → q < length mk → (j : ℕ)

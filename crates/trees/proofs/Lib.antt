@@ -2,6 +2,7 @@
 pub mod Slots
 pub mod Turns
 pub mod Counts
+pub mod Listed
 pub mod Copies
 pub mod Joins
 pub mod Takes

@@ -1,4 +1,5 @@
 -- Prune, cut and flip, by what the code does at each slot. Assumes nothing.
+use Rattle.std.specs.Prelude.{Some, None}
 use mathlib.Core.Path.{◌≡◌, refl, sym, ap, ap₂, ◌∙◌, subst}
 use mathlib.Core.Logic.{inl, inr}
 use mathlib.Core.Bool.{Bool, true, false, cond, not, ◌&&◌, ◌||◌, and_comm, or_comm}
@@ -17,14 +18,11 @@ use Rattle.floats.specs.Value.{negated}
 use Rattle.floats.specs.declared.Test.{Test}
 use Rattle.grid.specs.Node.{size}
 use Rattle.nodes.specs.State.{St}
-use Rattle.nodes.specs.Layout.{st, word_of, val_bit, slots_length}
+use Rattle.nodes.specs.Layout.{st, word_of, slots_length}
 use Rattle.nodes.specs.Change.{at2, hide_s}
 use Rattle.nodes.specs.Each.{each_s}
 use Rattle.nodes.specs.Range.{In, Stands, Cells}
-use Rattle.nodes.specs.Remove.{shut_m}
 use Rattle.nodes.specs.Walk.{branching, below}
-use Rattle.nodes.specs.declared.walk.Below.TheVariants.{Go, Stop}
-use Rattle.nodes.proofs.States.{st_slot, st_val}
 use Rattle.nodes.proofs.Paths.{one_less, leaf_cell}
 use Rattle.nodes.proofs.Places.{spread_in, spread_same, word_cell, wide_cell}
 use Rattle.nodes.proofs.Changes.{st_ext}
@@ -35,63 +33,13 @@ use Rattle.trees.specs.declared.turn.Work.TheVariants.{Prune, Cut, Flip}
 use Rattle.trees.proofs.Slots.{child_go, child_stop}
 use Rattle.trees.proofs.Copies.{word_at, dealt, dealt_none, dealt_left, dealt_more, dealt_values, blent, blent_none, blent_more, leaf_words, value_place}
 
--- ---- a slot of a cut, by what was read of it
-module _ (t : Test) (slots masks book : List ℕ) {n x k : ℕ} (i : In n x k) {v : Bool} (e : v ≡ bit_of masks (val_bit n x k)) where
-  val_is : (st n slots masks book).val x k ≡ v
-  val_is = st_val slots masks book i ∙ sym e
-
-  pub cut_hidden : v ≡ false → st n slots masks book ≡ hide_if_s t x k (st n slots masks book)
-  unfolding hide_if_s
-  cut_hidden h = sym (rw (val_is ∙ h) refl)
-
-  module _ (h : v ≡ true) {w : ℕ} (d : w ≡ get_or slots (word_of x k) 0) {q : Bool} (o : q ≡ cuts t w) where
-    cuts_is : cuts t ((st n slots masks book).slot x k) ≡ q
-    cuts_is = ap (cuts t) (st_slot slots masks book i ∙ sym d) ∙ sym o
-
-    pub cut_not : q ≡ false → st n slots masks book ≡ hide_if_s t x k (st n slots masks book)
-    unfolding hide_if_s
-    cut_not u = sym (rw (val_is ∙ h, cuts_is ∙ u) refl)
-
-    pub cut_hides : q ≡ true → {r : St} → r ≡ hide_s x k (st n slots masks book) → r ≡ hide_if_s t x k (st n slots masks book)
-    unfolding hide_if_s
-    cut_hides u z = z ∙ sym (rw (val_is ∙ h, cuts_is ∙ u) refl)
-
--- ---- a slot that is no branch
-module _ {w : Work} (x k : ℕ) (s : St) where
-  pub flat_prune : w ≡ Prune → s ≡ flat_s w x k s
-  unfolding flat_s
-  flat_prune e = sym (ap (λ (v : Work). flat_s v x k s) e)
-
-  pub flat_cut : {t : Test} {r : St} → w ≡ Cut t → r ≡ hide_if_s t x k s → r ≡ flat_s w x k s
-  unfolding flat_s
-  flat_cut e p = p ∙ sym (ap (λ (v : Work). flat_s v x k s) e)
-
-  pub flat_flip : {u v : ℕ} {r : St} → w ≡ Flip → u ≡ s.slot x k → v ≡ negated u → r ≡ word_s x k v s → r ≡ flat_s w x k s
-  unfolding flat_s
-  flat_flip e d n p = p ∙ ap (λ (i : ℕ). word_s x k i s) (n ∙ ap negated d) ∙ sym (ap (λ (v : Work). flat_s v x k s) e)
-
--- ---- on the way back
-module _ (w : Work) (bs : List ℕ) (n x k : ℕ) (s : St) where
-  pub back_flip : w ≡ Flip → s ≡ back_s w bs n x k s
-  unfolding back_s
-  back_flip e = sym (ap (λ (v : Work). back_s v bs n x k s) e)
-
-  pub back_shut : (w ≡ Flip → ⊥) → {r : St} → r ≡ shut_m bs n x k s → r ≡ back_s w bs n x k s
-  unfolding back_s
-  back_shut h {r} p = go w h
-    where
-      go : (w : Work) → (w ≡ Flip → ⊥) → r ≡ back_s w bs n x k s
-      go Prune h = p
-      go (Cut t) h = p
-      go Flip h = absurd (h refl)
-
 -- ---- a slot above the leaves
 module _ (w : Work) (bs : List ℕ) (go : ℕ → St → St) (n x k : ℕ) (s : St) where
-  pub turn_flat : {r : St} → Stop ≡ child_r n s x k → r ≡ flat_s w x k s → r ≡ turn_at w bs go n x k s
+  pub turn_flat : {r : St} → None ≡ child_r n s x k → r ≡ flat_s w x k s → r ≡ turn_at w bs go n x k s
   unfolding turn_at
   turn_flat e p = p ∙ sym (rw (child_stop n s x k e) refl)
 
-  pub turn_down : {c : ℕ} {r t : St} → Go c ≡ child_r n s x k → r ≡ go (8 + c) s → t ≡ back_s w bs n x k r → t ≡ turn_at w bs go n x k s
+  pub turn_down : {c : ℕ} {r t : St} → Some c ≡ child_r n s x k → r ≡ go (8 + c) s → t ≡ back_s w bs n x k r → t ≡ turn_at w bs go n x k s
   unfolding turn_at
   turn_down e p q =
       let g = child_go n s x k e in
@@ -99,7 +47,7 @@ module _ (w : Work) (bs : List ℕ) (go : ℕ → St → St) (n x k : ℕ) (s : 
 
 -- the same, where l is the node's level and the cell below is a leaf
 module _ (w : Work) (n x k : ℕ) (s : St) where
-  pub turn_near : {c : ℕ} {r t : St} (l : ℕ) → l ≡ 1 → Go c ≡ child_r n s x k → r ≡ turn_m (branching 0) (below 0) w n (8 + c) s → t ≡ back_s w (below 0) n x k r
+  pub turn_near : {c : ℕ} {r t : St} (l : ℕ) → l ≡ 1 → Some c ≡ child_r n s x k → r ≡ turn_m (branching 0) (below 0) w n (8 + c) s → t ≡ back_s w (below 0) n x k r
       → t ≡ turn_at w (below (l - 1)) (turn_m (branching (l - 1)) (below (l - 1)) w n) n x k s
   turn_near l h e p q =
       let z : 0 ≡ l - 1 = omega arith in
@@ -127,9 +75,6 @@ module _ {p : ℕ → Bool} {b i : ℕ} (m : Marked p b i) where
     where
       past : (r : ℕ) → (r ≡ i → ⊥) → i ≤ r → i + 1 ≤ r
       past r d h = omega arith
-
-  pub marked_all : i ≡ 64 → (k : ℕ) → word_bit b k ≡ p (k % 64)
-  marked_all e k = m.marks k ∙ rw (lt-ltb (k % 64) i (omega arith)) refl
 
 -- word q without the bits of v
 pub masks_dropped : (mk : List ℕ) (q v : ℕ) → q < length mk → v < 2 ^ 64 → (j : ℕ)
@@ -244,9 +189,6 @@ leaf_stands {n} {l} {x} s e = subst (λ (i : ℕ). Stands n i x) e s
 module _ (w : Work) (n x : ℕ) (s : St) {t : St} where
   pub leaf_work : {v : Work} → w ≡ v → t ≡ turn_m (branching 0) (below 0) v n x s → t ≡ turn_m (branching 0) (below 0) w n x s
   leaf_work e p = p ∙ ap (λ (w : Work). turn_m (branching 0) (below 0) w n x s) (sym e)
-
-  pub turn_leaf : (l : ℕ) → l ≡ 0 → t ≡ turn_m (branching 0) (below 0) w n x s → t ≡ turn_m (branching l) (below l) w n x s
-  turn_leaf l e p = p ∙ ap (λ (i : ℕ). turn_m (branching i) (below i) w n x s) (sym e)
 
   pub turn_all : (l k : ℕ) → (l ≡ 0 → ⊥) → k ≡ size (branching l) → t ≡ each_s (turn_at w (below (l - 1)) (turn_m (branching (l - 1)) (below (l - 1)) w n) n x) k s
       → t ≡ turn_m (branching l) (below l) w n x s

@@ -2,5 +2,6 @@
 pub mod Slot
 pub mod Turn
 pub mod Below
+pub mod Links
 pub mod Copy
 pub mod Combine

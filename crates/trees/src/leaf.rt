@@ -11,15 +11,18 @@ ghost use Rattle.trees.specs.Combine.{join_o, FiniteLeaf, combine_m};
 use super::take::Join;
 use nodes::memory::{BOTH_TOP_MASKS, CELL, TOPS};
 
-// "union takes minima, subtract the maximum of a and -b, intersect maxima".
-fn join_words(join: Join, v: u32, w: u32) -> u32
-    requires { (is_finite v ≡ true) × (is_finite w ≡ true) }
-    ensures { result ≡ joined (join_o join) v w }
-{
-    match join {
-        Join::Union => floats::least_word(v, w),
-        Join::Subtract => floats::most_word(v, floats::negated_word(w)),
-        Join::Intersect => floats::most_word(v, w),
+impl Join {
+    // "union takes minima, subtract the maximum of a and -b, intersect maxima".
+    #[tactic(auto, using(floats::proofs::Finite::finite_negated))]
+    fn join_words(self, v: u32, w: u32) -> u32
+        requires { (is_finite v ≡ true) × (is_finite w ≡ true) }
+        ensures { result ≡ joined (join_o self) v w }
+    {
+        match self {
+            Join::Union => floats::least_word(v, w),
+            Join::Subtract => floats::most_word(v, floats::negated_word(w)),
+            Join::Intersect => floats::most_word(v, w),
+        }
     }
 }
 
@@ -31,10 +34,8 @@ fn join_values(slots: &mut [u32], c: usize, d: usize, join: Join)
 {
     let a = TOPS + CELL * c;
     let b = TOPS + CELL * d;
-    let mut i = 0;
-    while i < CELL {
-        slots[a + i] = join_words(join, slots[a + i], slots[b + i]);
-        i += 1;
+    for i in 0..CELL {
+        slots[a + i] = join.join_words(slots[a + i], slots[b + i]);
     }
 }
 
@@ -44,10 +45,10 @@ fn join_masks(masks: &mut [u64], n: usize, c: usize, d: usize)
     ensures { (j : ℕ) → bit_of masks.new j
         ≡ cond (eqb (j / 64) (128 + n + c)) (bit_of masks.old (64 * (128 + n + c) + j % 64) || bit_of masks.old (64 * (128 + n + d) + j % 64)) (bit_of masks.old j) }
 {
-    masks[BOTH_TOP_MASKS + n + c] = masks[BOTH_TOP_MASKS + n + c] | masks[BOTH_TOP_MASKS + n + d];
+    masks[BOTH_TOP_MASKS + n + c] |= masks[BOTH_TOP_MASKS + n + d];
 }
 
-// Leaf y joined into leaf x, as one piece. The promise holds whatever the book.
+// Leaf y joined into leaf x, as one piece. The promise holds whatever the book: so it is over two slices and not over a pool.
 pub fn join_leaf(slots: &mut [u32], masks: &mut [u64], n: usize, x: usize, y: usize, join: Join)
     requires { (Cells n slots.old masks.old) × (Stands n 0 x) × (Stands n 0 y) × (FiniteLeaf slots.old (x - 8)) × (FiniteLeaf slots.old (y - 8)) }
     ensures { (book : List ℕ) → st n slots.new masks.new book ≡ combine_m (branching 0) (below 0) (join_o join) n x y (st n slots.old masks.old book) }

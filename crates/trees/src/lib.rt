@@ -6,6 +6,7 @@
 pub mod below;
 pub mod copy;
 pub mod leaf;
+pub mod links;
 pub mod slot;
 pub mod take;
 pub mod turn;

@@ -1,27 +1,11 @@
-// One slot of a node: where it leads, whether it is hidden, and its value changed.
+// One slot of a node: whether it is hidden, and its value changed.
 ghost use Rattle.std.specs.Prelude.{◌≡◌, List, ℕ, ◌<◌};
 ghost use Rattle.nodes.specs.Layout.{st};
-ghost use Rattle.nodes.specs.Range.{In, Cells, Slotted, Masked};
+ghost use Rattle.nodes.specs.Range.{In, Slotted, Masked};
 ghost use Rattle.nodes.specs.Walk.{below};
-ghost use Rattle.trees.specs.Slot.{child_r, hidden_s, word_s};
+ghost use Rattle.trees.specs.Slot.{hidden_s, word_s};
 
 use nodes::memory;
-use nodes::walk::Below;
-
-// The cell that slot k of node x, above the leaves, leads to: none where it is no branch, or its link leaves the pool. The promise holds whatever the book.
-pub fn child(slots: &[u32], masks: &[u64], n: usize, x: usize, k: usize) -> Below
-    requires { (Cells n slots.now masks.now) × In n x k }
-    ensures { (book : List ℕ) → result ≡ child_r n (st n slots.now masks.now book) x k }
-{
-    if !memory::kid(masks, x, k) {
-        return Below::Stop;
-    }
-    let c = memory::word(slots, x, k) as usize;
-    if c < n {
-        return Below::Go(c);
-    }
-    Below::Stop
-}
 
 // Slot k of node x, of any level above the leaves, is neither active nor a branch.
 pub fn hidden(masks: &[u64], n: usize, x: usize, k: usize) -> bool

@@ -2,18 +2,20 @@
 ghost use Rattle.std.specs.Prelude.{◌≡◌, cond, not, ◌&&◌, List, ℕ, ◌+◌, ◌-◌, ◌*◌, ◌/◌, ◌%◌, ◌<◌, ◌≤◌, length, get_or, eqb};
 ghost use Rattle.bitset.specs.Set.{bit_of, word_bit};
 ghost use Rattle.floats.specs.Value.{negated};
-ghost use Rattle.nodes.specs.Layout.{Sized, st, slots_length};
-ghost use Rattle.nodes.specs.Range.{In, Stands, Cells, Masked};
+ghost use Rattle.nodes.specs.Layout.{st, slots_length};
+ghost use Rattle.nodes.specs.Pool.{Same, state};
+ghost use Rattle.nodes.specs.Range.{In, Stands, Slotted, Masked};
 ghost use Rattle.nodes.specs.Walk.{branching, below};
+ghost use Rattle.trees.specs.Slot.{word_s};
 ghost use Rattle.trees.specs.Turn.{cuts, hide_if_s, flat_s, back_s, turn_at, turn_m};
 
 use super::slot;
 use floats::Test;
 use nodes::memory::{BOTH_TOP_MASKS, CELL, TOPS};
-use nodes::walk::Below;
-use nodes::{geometry, memory, remove};
+use nodes::pool::Pool;
+use nodes::{geometry, memory};
 
-// What is done to every slot of a node and of all that hangs below it.
+// What is done to every slot of a node and of all that hangs below it. It stays an enum, since the specs take it apart and one proof serves the three.
 #[derive(Clone, Copy)]
 pub enum Work {
     Prune,
@@ -28,37 +30,38 @@ fn cuts(t: Test, w: u32) -> bool
     floats::finite_word(w) && floats::passed(t, w)
 }
 
-// Slot k of node x, which is no branch, is hidden if it is active and passes the test. The promise holds whatever the book.
-fn hide_if(slots: &[u32], masks: &mut [u64], n: usize, x: usize, k: usize, t: Test)
-    requires { (Cells n slots.now masks.old) × In n x k }
-    ensures { (book : List ℕ) → st n slots.now masks.new book ≡ hide_if_s t x k (st n slots.now masks.old book) }
+// Slot k of node x, which is no branch, is hidden if it is active and passes the test.
+#[tactic(auto, unfolding(crate::specs::Turn::hide_if_s))]
+fn hide_if(pool: &mut Pool, x: usize, k: usize, t: Test)
+    requires { In pool.old.n x k }
+    ensures kept { Same pool.old pool.new }
+    ensures turned { state pool.new ≡ hide_if_s t x k (state pool.old) }
 {
-    if !memory::val(masks, n, x, k) {
-        return;
-    }
-    if cuts(t, memory::word(slots, x, k)) {
-        remove::hide(masks, n, x, k);
+    if pool.val(x, k) && cuts(t, pool.word(x, k)) {
+        pool.hide(x, k);
     }
 }
 
+// The value of slot k of node x, with the other sign.
+fn flip(slots: &mut [u32], n: usize, x: usize, k: usize)
+    requires { (Slotted n slots.old) × In n x k }
+    ensures { (masks book : List ℕ) → st n slots.new masks book ≡ word_s x k (negated ((st n slots.old masks book).slot x k)) (st n slots.old masks book) }
+{
+    let w = memory::word(slots, x, k);
+    slot::set_value(slots, n, x, k, floats::negated_word(w));
+}
+
 // What is done at slot k of node x, which is no branch.
-fn flat(slots: &mut [u32], masks: &mut [u64], n: usize, x: usize, k: usize, work: Work)
-    requires { (Cells n slots.old masks.old) × In n x k }
-    ensures { (book : List ℕ) → st n slots.new masks.new book ≡ flat_s work x k (st n slots.old masks.old book) }
+#[tactic(auto, unfolding(crate::specs::Turn::flat_s))]
+fn flat(pool: &mut Pool, x: usize, k: usize, work: Work)
+    requires { In pool.old.n x k }
+    ensures kept { Same pool.old pool.new }
+    ensures turned { state pool.new ≡ flat_s work x k (state pool.old) }
 {
     match work {
-        Work::Prune => {
-            return;
-        }
-        Work::Cut(t) => {
-            hide_if(slots, masks, n, x, k, t);
-            return;
-        }
-        Work::Flip => {
-            let w = memory::word(slots, x, k);
-            slot::set_value(slots, n, x, k, floats::negated_word(w));
-            return;
-        }
+        Work::Prune => (),
+        Work::Cut(t) => hide_if(pool, x, k, t),
+        Work::Flip => flip(pool.slots, pool.n, x, k),
     }
 }
 
@@ -69,10 +72,9 @@ fn flip_words(slots: &mut [u32], c: usize)
         ≡ cond (eqb (i / 64) (64 + c)) (negated (get_or slots.old (64 * (64 + c) + i % 64) 0)) (get_or slots.old i 0) }
 {
     let a = TOPS + CELL * c;
-    let mut i = 0;
-    while i < CELL {
-        slots[a + i] = floats::negated_word(slots[a + i]);
-        i += 1;
+    let cell = &mut slots[a..a + CELL];
+    for w in cell.iter_mut() {
+        *w = floats::negated_word(*w);
     }
 }
 
@@ -80,10 +82,7 @@ fn flip_words(slots: &mut [u32], c: usize)
 fn cut_bit(t: Test, w: u32, i: usize) -> u64
     ensures { (k : ℕ) → word_bit result k ≡ cuts t w && eqb (k % 64) (i % 64) }
 {
-    if cuts(t, w) {
-        return bitset::value_mask(i);
-    }
-    0
+    if cuts(t, w) { bitset::value_mask(i) } else { 0 }
 }
 
 // The bits of the slots of cell c whose words are cut.
@@ -93,10 +92,8 @@ fn cut_bits(slots: &[u32], c: usize, t: Test) -> u64
 {
     let a = TOPS + CELL * c;
     let mut bits = 0;
-    let mut i = 0;
-    while i < CELL {
-        bits = bits | cut_bit(t, slots[a + i], i);
-        i += 1;
+    for (i, w) in slots[a..a + CELL].iter().enumerate() {
+        bits |= cut_bit(t, *w, i);
     }
     bits
 }
@@ -111,97 +108,64 @@ fn drop_values(masks: &mut [u64], n: usize, c: usize, bits: u64)
 }
 
 // What is done at every slot of leaf x, as one piece. A prune does nothing there.
-fn leaf(slots: &mut [u32], masks: &mut [u64], n: usize, x: usize, work: Work)
-    requires { (Cells n slots.old masks.old) × Stands n 0 x }
-    ensures { (book : List ℕ) → st n slots.new masks.new book ≡ turn_m (branching 0) (below 0) work n x (st n slots.old masks.old book) }
+fn leaf(pool: &mut Pool, x: usize, work: Work)
+    requires { Stands pool.old.n 0 x }
+    ensures kept { Same pool.old pool.new }
+    ensures turned { state pool.new ≡ turn_m (branching 0) (below 0) work pool.old.n x (state pool.old) }
 {
     match work {
-        Work::Prune => {
-            return;
-        }
+        Work::Prune => (),
         Work::Cut(t) => {
-            let bits = cut_bits(slots, x - 8, t);
-            drop_values(masks, n, x - 8, bits);
-            return;
+            let slots = &mut *pool.slots;
+            drop_values(pool.masks, pool.n, x - 8, cut_bits(slots, x - 8, t));
         }
-        Work::Flip => {
-            flip_words(slots, x - 8);
-            return;
-        }
+        Work::Flip => flip_words(pool.slots, x - 8),
     }
 }
 
 // What is done on the way back from the cell below slot k of node x, of a level: a prune and a cut release it if it is empty.
-fn back(
-    slots: &mut [u32],
-    masks: &mut [u64],
-    book: &mut [u32],
-    n: usize,
-    level: usize,
-    x: usize,
-    k: usize,
-    work: Work,
-)
-    requires { (Sized n slots.old masks.old book.old) × In n x k }
-    ensures { st n slots.new masks.new book.new ≡ back_s work (below level) n x k (st n slots.old masks.old book.old) }
+#[tactic(auto, unfolding(crate::specs::Turn::back_s))]
+fn back(pool: &mut Pool, level: usize, x: usize, k: usize, work: Work)
+    requires { In pool.old.n x k }
+    ensures kept { Same pool.old pool.new }
+    ensures turned { state pool.new ≡ back_s work (below level) pool.old.n x k (state pool.old) }
 {
-    if let Work::Flip = work {
-        return;
+    match work {
+        Work::Prune | Work::Cut(_) => pool.shut(level, x, k),
+        Work::Flip => (),
     }
-    remove::shut(slots, masks, book, n, level, x, k);
 }
 
-// What is done at slot k of node x of a level above the leaves.
+// What is done at slot k of node x of a level above the leaves. A leaf is done here: a call of `turn` for each would make a prune slower by a fifth.
 #[cycle(turn_turn_slot)]
-fn turn_slot(
-    slots: &mut [u32],
-    masks: &mut [u64],
-    book: &mut [u32],
-    n: usize,
-    level: usize,
-    x: usize,
-    k: usize,
-    work: Work,
-)
-    requires { (Sized n slots.old masks.old book.old) × (Stands n level x) × (In n x k) × (0 < level) }
-    ensures { st n slots.new masks.new book.new
-        ≡ turn_at work (below (level - 1)) (turn_m (branching (level - 1)) (below (level - 1)) work n) n x k (st n slots.old masks.old book.old) }
+fn turn_slot(pool: &mut Pool, level: usize, x: usize, k: usize, work: Work)
+    requires { (Stands pool.old.n level x) × (In pool.old.n x k) × (0 < level) }
+    ensures kept { Same pool.old pool.new }
+    ensures turned { state pool.new
+        ≡ turn_at work (below (level - 1)) (turn_m (branching (level - 1)) (below (level - 1)) work pool.old.n) pool.old.n x k (state pool.old) }
 {
-    let Below::Go(c) = slot::child(slots, masks, n, x, k) else {
-        flat(slots, masks, n, x, k, work);
-        return;
+    let Some(c) = pool.child(x, k) else {
+        return flat(pool, x, k, work);
     };
     if level == 1 {
-        leaf(slots, masks, n, 8 + c, work);
-        back(slots, masks, book, n, 0, x, k, work);
-        return;
+        leaf(pool, 8 + c, work);
+        return back(pool, 0, x, k, work);
     }
-    turn(slots, masks, book, n, level - 1, 8 + c, work);
-    back(slots, masks, book, n, level - 1, x, k, work);
+    turn(pool, level - 1, 8 + c, work);
+    back(pool, level - 1, x, k, work);
 }
 
 // Every slot of node x of a level, and all that hangs below it.
 #[cycle(turn_turn_slot)]
-pub fn turn(
-    slots: &mut [u32],
-    masks: &mut [u64],
-    book: &mut [u32],
-    n: usize,
-    level: usize,
-    x: usize,
-    work: Work,
-)
-    requires { (Sized n slots.old masks.old book.old) × Stands n level x }
-    ensures { st n slots.new masks.new book.new ≡ turn_m (branching level) (below level) work n x (st n slots.old masks.old book.old) }
+pub fn turn(pool: &mut Pool, level: usize, x: usize, work: Work)
+    requires { Stands pool.old.n level x }
+    ensures kept { Same pool.old pool.new }
+    ensures turned { state pool.new ≡ turn_m (branching level) (below level) work pool.old.n x (state pool.old) }
 {
     if level == 0 {
-        leaf(slots, masks, n, x, work);
-        return;
+        return leaf(pool, x, work);
     }
-    let m = geometry::size_in(level);
-    let mut k = 0;
-    while k < m {
-        turn_slot(slots, masks, book, n, level, x, k, work);
-        k += 1;
+    for k in 0..geometry::size_in(level) {
+        turn_slot(pool, level, x, k, work);
     }
 }

@@ -1,7 +1,7 @@
 -- One seat turned: the promise of a call that changes it, from what the code has done to the pool. Assumes nothing.
 use mathlib.Core.Path.{◌≡◌, refl, sym, ap, ap₂, ◌∙◌}
 use mathlib.Core.Bool.{Bool, true, false, not, cond, ◌&&◌}
-use mathlib.Core.List.{[], ◌∷◌}
+use mathlib.Core.List.{List, [], ◌∷◌}
 use mathlib.Core.Option.{none, some}
 use Prim.Native.Nat.{ℕ, ◌-◌, ◌/◌, ◌<◌, ◌≤◌}
 use native.Mathlib.Omega.{arith}
@@ -12,7 +12,7 @@ use Rattle.floats.specs.Value.{is_finite}
 use Rattle.grid.specs.Geometry.{Point, total}
 use Rattle.grid.specs.Node.{Node, put}
 use Rattle.grid.specs.Voxel.{insert, remove}
-use Rattle.seats.specs.Call.{Act, One, Insert, Remove, refused, done}
+use Rattle.seats.specs.Call.{Call, Act, One, Insert, Remove, done}
 use Rattle.seats.specs.Promise.{Keeps, grants, turn, loose}
 use Rattle.seats.specs.Refusal.{refusal}
 use Rattle.seats.specs.Seat.{Seat, State}
@@ -20,11 +20,14 @@ use Rattle.seats.specs.Step.{act, served, step}
 use Rattle.seats.proofs.Refusal.{enough}
 use Rattle.seats.proofs.Promise.{served_step}
 use Rattle.nodes.specs.State.{St}
-use Rattle.nodes.specs.Layout.{st, tops}
+use Rattle.nodes.specs.Layout.{st, tops, slots_length, masks_length, book_length}
+use Rattle.nodes.specs.Pool.{state}
+use Rattle.nodes.specs.declared.pool.Pool.{Pool}
 use Rattle.nodes.specs.Change.{mark_s}
 use Rattle.nodes.specs.Walk.{Reach, active, hidden, broken, need_insert_r, need_remove_r, reach_s, insert_m, point_of, voxel_of}
 use Rattle.nodes.specs.Remove.{remove_m}
 use Rattle.nodes.specs.Test.{sound_b}
+use Rattle.nodes.proofs.Pools.{st_by}
 use Rattle.means.specs.Level.{levels, tree_at, Turned}
 use Rattle.means.specs.Unspoilt.{Unspoilt}
 use Rattle.means.specs.Mem.{Mem, lens_of, cells_of, fits, pool_of, SoundMem, seat_of, state_of, walk, whole, linked, reads_in, UnspoiltMem}
@@ -35,8 +38,12 @@ use Rattle.means.proofs.Insert.{insert_right}
 use Rattle.means.proofs.Remove.{remove_right}
 use Rattle.means.proofs.Unspoilt.{unspoilt_mark, insert_unspoilt, remove_unspoilt}
 use Rattle.voxels.specs.Lent.{lent}
-use Rattle.voxels.specs.Answers.{Says, or_none, code_of, blocked_r}
-use Rattle.voxels.proofs.Promises.{Counted, is_fit, is_cells, is_pool, is_walk, blocked_says}
+use Rattle.voxels.specs.Answers.{mem_of, Says, or_none, done_of, blocked_r}
+use Rattle.std.proofs.Common.{Fits, w32, w64}
+use Rattle.std.specs.Prelude.{Result, Ok, Err, IsErrAnd, get_or}
+use Rattle.voxels.specs.declared.refusal.Refusal.{Refusal}
+use Rattle.voxels.specs.declared.refusal.Refusal.TheVariants.{Value, Damaged, NoCells}
+use Rattle.voxels.proofs.Promises.{Counted, is_sized, is_pool, is_walk, refused_says, exit_says}
 
 -- ---- the same lengths
 
@@ -56,6 +63,26 @@ module _ {m m' : Mem} (k : Kept m m') where
   unfolding fits
   kept_fits = cc (k.slots, k.masks, k.book)
 
+  pub kept_counted : {n : ℕ} → Counted n m → Counted n m'
+  kept_counted c = record { fit = kept_fits ∙ c.fit; cells = c.cells ∙ sym kept_cells }
+
+-- a call that worked on a pool, once the slices are lent no more: p is what the pool was then. The three facts f, g and j say by their types which lists the slices hold.
+pub returned : (p : Pool) {m : Mem} {n : ℕ} → Counted n m → p.n ≡ n → {s : St} → state p ≡ s → (c : Call)
+    → ((m' : Mem) → Kept m m' → st n m'.slots m'.masks m'.book ≡ s → Says done_of c m (Ok tt) m') → {slots masks book : List ℕ}
+    → ((i : ℕ) → Fits w32 (get_or slots i 0)) → ((i : ℕ) → Fits w64 (get_or masks i 0)) → ((i : ℕ) → Fits w32 (get_or book i 0))
+    → slots ≡ p.slots.now → masks ≡ p.masks.now → book ≡ p.book.now → Says done_of c m (Ok tt) (mem_of slots masks book)
+returned p {m} {n} h e t c says {slots} {masks} {book} f g j x y z = says (mem_of slots masks book) kept (st_by p e x y z ∙ t)
+  where
+    kept : Kept m (mem_of slots masks book)
+    kept =
+        let a = p.sized in
+        let b = is_sized h in
+        record {
+          slots = ap length x ∙ a.slots_fit ∙ ap slots_length e ∙ sym b.slots_fit;
+          masks = ap length y ∙ a.masks_fit ∙ ap masks_length e ∙ sym b.masks_fit;
+          book = ap length z ∙ a.book_fit ∙ ap book_length e ∙ sym b.book_fit;
+        }
+
 -- ---- a call on one seat that is served: the seat is g, with the mark mk
 
 module _ (m m' : Mem) (i : ℕ) (l : i < 8) (x : Act) (serve : refusal (reads_in m) (One i x) ≡ none) (k : Kept m m') (mk : ℕ) (two : mk < 2) (r : St) (is : pool_of m' ≡ mark_s i mk r)
@@ -73,7 +100,7 @@ module _ (m m' : Mem) (i : ℕ) (l : i < 8) (x : Act) (serve : refusal (reads_in
 
 -- ---- insert and remove: the tests after the walk
 
-afford_is : (x y : Bool) → cond (not x) (some 5) (cond (not y) (some 9) none) ≡ or_none (cond x (cond y 0 9) 5)
+afford_is : (x y : Bool) → cond (not x) (some 5) (cond (not y) (some 9) none) ≡ or_none (cond x (cond y (Ok tt) (Err NoCells)) (Err Damaged))
 afford_is true true = refl
 afford_is true false = refl
 afford_is false y = refl
@@ -136,30 +163,31 @@ module _ {x : Point → Act} {need : Reach → ℕ} {does : ℕ → Point → �
         (refl, t.0, t.1, t.2, t.3)
     edits false e = (refl, kept_lens k, unspoilt_mark i 0 is (d.clean (cells_of m) p i (pool_of m) (fitting m fit).most))
 
-    edit_says : Says code_of (One i (x p)) m 0 m'
+    edit_says : Says done_of (One i (x p)) m (Ok tt) m'
     edit_says = (done, refl, rw (serve, d.allowed m i p) (edits (sound_b (cells_of m) (pool_of m)) refl))
 
-  -- as the code does it, by the number of the voxel, on memory for n cells; r is the refusal that it found, or 0
-  module _ (m : Mem) (n : ℕ) (h : Counted n m) (z : n ≡ 0 → ⊥) (i v : ℕ) (l : i ≤ 7) (p : Point) (e : v ≡ voxel_of p) (r : ℕ)
+  -- as the code does it, by the number of the voxel, on memory for n cells; r is the refusal that it found, if any
+  module _ {m : Mem} {n : ℕ} (h : Counted n m) (i v : ℕ) (l : i < 8) (p : Point) (e : v ≡ voxel_of p) {r : Result Unit Refusal}
       (found : (let s = st n m.slots m.masks m.book in let q = reach_s 3 (2 ∷ 2 ∷ []) n s i (point_of v) in r ≡ blocked_r n s q (need q))) where
     walked : (let s = st n m.slots m.masks m.book in let q = reach_s 3 (2 ∷ 2 ∷ []) n s i (point_of v) in blocked_r n s q (need q))
         ≡ blocked_r (cells_of m) (pool_of m) (walk m i p) (need (walk m i p))
-    walked = cc (is_cells m n h z, is_pool m n h z, is_walk m n h z i v p e)
+    walked = cc (h.cells, is_pool h, is_walk h i v p e)
 
-    number : refusal (reads_in m) (One i (x p)) ≡ or_none r
-    number = d.barred m i p (omega arith) (is_fit m n h z) ∙ ap or_none (sym (found ∙ walked))
+    barred_r : refusal (reads_in m) (One i (x p)) ≡ or_none r
+    barred_r = d.barred m i p l h.fit ∙ ap or_none (sym (found ∙ walked))
 
-    pub edit_blocked : (r ≡ 0 → ⊥) → Says code_of (One i (x p)) m r m
-    edit_blocked = blocked_says code_of (One i (x p)) m r number
+  module _ {m : Mem} {n : ℕ} (h : Counted n m) (i v : ℕ) (l : i < 8) (p : Point) (e : v ≡ voxel_of p) where
+    pub edit_blocked : {q : Refusal} {r : Result Unit Refusal}
+        → (let s = st n m.slots m.masks m.book in let w = reach_s 3 (2 ∷ 2 ∷ []) n s i (point_of v) in Err q ≡ blocked_r n s w (need w)) → IsErrAnd r (λ y. y ≡ q)
+        → Says done_of (One i (x p)) m r m
+    edit_blocked f b = exit_says done_of (λ n. refl) (One i (x p)) m _ b (barred_r h i v l p e f)
 
-    pub edit_done : (m' : Mem) → Kept m m' → r ≡ 0 → st n m'.slots m'.masks m'.book ≡ mark_s i 0 (does n (point_of v) i (st n m.slots m.masks m.book))
-        → Says code_of (One i (x p)) m 0 m'
-    edit_done m' k y is = edit_says m m' i p (omega arith) (is_fit m n h z) (number ∙ ap or_none y) k
-        (sym after ∙ is ∙ ap (λ (q : ℕ → St → St). mark_s i 0 (q i (st n m.slots m.masks m.book))) (ap (λ (j : ℕ). does n (point_of j)) e ∙ sym (d.same n p)) ∙ cc (is_cells m n h z, is_pool m n h z))
-      where
-        after : st n m'.slots m'.masks m'.book ≡ pool_of m'
-        after = is_pool m' n (λ y a b c. h y (a ∙ k.slots) (b ∙ k.masks) (c ∙ k.book)) z
+    pub edit_done : {u : Unit} → (let s = st n m.slots m.masks m.book in let w = reach_s 3 (2 ∷ 2 ∷ []) n s i (point_of v) in Ok u ≡ blocked_r n s w (need w))
+        → (m' : Mem) → Kept m m' → st n m'.slots m'.masks m'.book ≡ mark_s i 0 (does n (point_of v) i (st n m.slots m.masks m.book)) → Says done_of (One i (x p)) m (Ok tt) m'
+    edit_done f m' k is = edit_says m m' i p l h.fit (barred_r h i v l p e f) k
+        (sym (is_pool (kept_counted k h)) ∙ is ∙ ap (λ (q : ℕ → St → St). mark_s i 0 (q i (st n m.slots m.masks m.book))) (ap (λ (j : ℕ). does n (point_of j)) e ∙ sym (d.same n p))
+        ∙ cc (h.cells, is_pool h))
 
 -- the value is tested after the seat
-pub insert_4 : (m : Mem) (n : ℕ) → Counted n m → (n ≡ 0 → ⊥) → (i : ℕ) → i ≤ 7 → (p : Point) (w : ℕ) → is_finite w ≡ false → Says code_of (One i (Insert p w)) m 4 m
-insert_4 m n h z i l p w f = (refused 4, refl, rw (is_fit m n h z, lt-leb 8 i (omega arith), f) (refl, refl))
+pub insert_4 : {m : Mem} {n : ℕ} → Counted n m → (i : ℕ) → i < 8 → (p : Point) (w : ℕ) → is_finite w ≡ false → Says done_of (One i (Insert p w)) m (Err Value) m
+insert_4 {m} h i l p w f = refused_says done_of (λ n. refl) (One i (Insert p w)) m Value (rw (h.fit, lt-leb 8 i l, f) refl)

@@ -1,43 +1,33 @@
--- `bitset::find_first_on` meets its contract. The words that the loop has passed are 0. Assumes nothing.
-use mathlib.Core.Path.{◌≡◌, sym, ap, ◌∙◌}
-use Prim.Native.Nat.{ℕ, ◌+◌, ◌*◌}
+-- `bitset::find_first_on` meets its contract. Assumes nothing.
+use mathlib.Core.Path.{sym, ◌∙◌, subst}
 use native.Mathlib.Nat.{not-suc-le-zero}
-use borrow.Author.Count.{below_more}
-use lib.Count.{count_leading_zeros}
-use lib.ListN.{get_or}
-use Rattle.bitset.specs.Set.{bit_of}
+use native.Mathlib.Omega.{arith}
+use lib.ListN.{length}
+use Rattle.bitset.specs.Answers.{FirstOn}
 use Rattle.bitset.proofs.Sets.{has_own}
 use Rattle.bitset.proofs.First.{leads, none_before}
-use native.Mathlib.Omega.{arith}
 use Rattle.bitset.proofs.find_first_on.Goals as goal
 
-pub overflow_cast-k : goal.overflow_cast-k
-overflow_cast-k c = omega (arith, (leads _ c.if-w-ne0.true (c.type_inv.ws c.loop-i.i).fits).within)
-
 pub overflow_add-k : goal.overflow_add-k
-overflow_add-k c = omega (arith, (leads _ c.if-w-ne0.true (c.type_inv.ws c.loop-i.i).fits).within)
+overflow_add-k c = let e = c.in_ok-i.ensures in omega (arith, e.0, (leads _ e.1 (c.type_inv.ws c.in_ok-i.i).fits).within)
+
+pub returns-in_err-i : goal.returns-in_err-i
+returns-in_err-i c =
+    let ws = c.args.ws.now in
+    subst (FirstOn ws c.args.n) (sym c.from_residual.ensures)
+    (λ j h. none_before ws (length ws) 0 (omega arith) (c.in_err-i.ensures) (λ r f. absurd (not-suc-le-zero f)) j (omega arith))
 
 pub returns-then-k-n : goal.returns-then-k-n
 returns-then-k-n c =
     let ws = c.args.ws.now in
-    let l = c.loop-i in
-    let z = count_leading_zeros 64 (get_or ws l.i 0) in
-    let d = leads _ c.if-w-ne0.true (c.type_inv.ws l.i).fits in
-    let e : 64 * l.i + z ≡ l.i * 64 + z = omega arith in
-    (c.if-k-n.true, ap (bit_of ws) (sym e) ∙ sym (has_own ws l.i z d.within) ∙ d.on, none_before ws l.i z (omega arith) l.invariant.1 d.before)
+    let i = c.in_ok-i.i in
+    let e = c.in_ok-i.ensures in
+    let d = leads _ e.1 (c.type_inv.ws i).fits in
+    (c.if-k-n.true, sym (has_own ws i _ d.within) ∙ d.on, none_before ws i _ (omega arith) e.2 d.before)
 
-pub returns-then-w-ne0 : goal.returns-then-w-ne0
-returns-then-w-ne0 c =
-    let l = c.loop-i in
-    let d = leads _ c.if-w-ne0.true (c.type_inv.ws l.i).fits in
-    λ j h. none_before c.args.ws.now l.i _ (omega arith) l.invariant.1 d.before j (omega arith)
-
-pub loop-i-preserved : goal.loop-i-preserved
-loop-i-preserved c =
-    let l = c.loop-i in
-    (omega arith, below_more (λ (p : ℕ). get_or c.args.ws.now p 0 ≡ 0) l.i l.invariant.1 c.if-w-ne0.false)
-
-pub returns : goal.returns
-returns c =
-    let l = c.loop-i in
-    λ j h. none_before c.args.ws.now l.i 0 (omega arith) l.invariant.1 (λ r f. absurd (not-suc-le-zero f)) j (omega arith)
+pub returns-else-k-n : goal.returns-else-k-n
+returns-else-k-n c =
+    let i = c.in_ok-i.i in
+    let e = c.in_ok-i.ensures in
+    let d = leads _ e.1 (c.type_inv.ws i).fits in
+    λ j h. none_before c.args.ws.now i _ (omega arith) e.2 d.before j (omega arith)

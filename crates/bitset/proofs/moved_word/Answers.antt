@@ -3,13 +3,8 @@ use mathlib.Core.Path.{sym, subst}
 use Prim.Native.Nat.{ℕ, ◌-◌, ◌*◌, ◌/◌, ◌^◌}
 use Rattle.bitset.specs.Set.{up}
 use Rattle.bitset.proofs.Sets.{Has}
-use Rattle.bitset.proofs.Shifts.{moved_whole, moved_part, moved_none}
+use Rattle.bitset.proofs.Shifts.{moved_part}
 use Rattle.bitset.proofs.moved_word.Goals as goal
-
-pub returns-then-s-first : goal.returns-then-s-first
-returns-then-s-first c =
-    let a = c.args in
-    moved_whole a.ws.now a.q a.s c.window.result c.if-s-first.true c.window.ensures
 
 pub returns-then-s-first-2 : goal.returns-then-s-first-2
 returns-then-s-first-2 c =
@@ -17,8 +12,3 @@ returns-then-s-first-2 c =
     let ws = a.ws.now in
     subst (λ (w : ℕ). Has (up ws a.s) a.q (w / 2 ^ (a.s - 64 * a.q))) (sym c.word_or_zero.ensures)
     (moved_part ws a.q a.s c.if-s-first.false c.if-s-first-2.true (c.type_inv.ws 0).fits)
-
-pub returns : goal.returns
-returns c =
-    let a = c.args in
-    moved_none a.ws.now a.q a.s c.if-s-first-2.false

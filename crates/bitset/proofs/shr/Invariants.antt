@@ -4,6 +4,3 @@ use Rattle.bitset.proofs.shr.Given as goal
 
 abbrev pub invariant-loop-q : goal.invariant-loop-q
 invariant-loop-q l = Back (up l.initial.ws l.s) l.initial.ws l.ws l.q
-
-abbrev pub decreases-loop-q : goal.decreases-loop-q
-decreases-loop-q l = l.q

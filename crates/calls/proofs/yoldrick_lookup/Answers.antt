@@ -12,4 +12,4 @@ returns c =
     let p = point_at a.x a.y a.z in
     let m = mem_of a.slots.now a.masks.now a.book.now in
     let e = voxel_same (to_z-of_z c.ranges.x) (to_z-of_z c.ranges.y) (to_z-of_z c.ranges.z) in
-    says_as found_of answer_f answer_of answer_same (One a.seat (Lookup p)) m m _ _ (c.lookup.ensures p (c.voxel-v.ensures.0 ∙ e)) c.answer.ensures
+    says_as found_of answer_f answer_of answer_same (One a.seat (Lookup p)) m m _ _ (c.lookup.ensures p (c.voxel-v.ensures.0 ∙ e)) c.from.ensures

@@ -1,5 +1,7 @@
 use mathlib.Core.Path.{◌∙◌}
 use mir.Facts.{to_z-of_z}
+use Rattle.seats.specs.Call.{One, Remove}
+use Rattle.voxels.specs.Answers.{mem_of}
 use Rattle.calls.specs.Forms.{point_at}
 use Rattle.calls.proofs.Laws.{voxel_same}
 use Rattle.calls.proofs.yoldrick_remove.Goals as goal
@@ -7,5 +9,7 @@ use Rattle.calls.proofs.yoldrick_remove.Goals as goal
 pub returns : goal.returns
 returns c =
     let a = c.args in
+    let p = point_at a.x a.y a.z in
+    let l = c.remove.new in
     let e = voxel_same (to_z-of_z c.ranges.x) (to_z-of_z c.ranges.y) (to_z-of_z c.ranges.z) in
-    c.remove.ensures (point_at a.x a.y a.z) (c.voxel-v.ensures.0 ∙ e)
+    c.code.ensures (One a.seat (Remove p)) (mem_of a.slots.now a.masks.now a.book.now) (mem_of l.slots l.masks l.book) (c.remove.ensures p (c.voxel-v.ensures.0 ∙ e))

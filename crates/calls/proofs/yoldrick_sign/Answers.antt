@@ -12,4 +12,4 @@ returns c =
     let p = point_at a.x a.y a.z in
     let m = mem_of a.slots.now a.masks.now a.book.now in
     let e = voxel_same (to_z-of_z c.ranges.x) (to_z-of_z c.ranges.y) (to_z-of_z c.ranges.z) in
-    says_as whether_of truth_f truth_answer_of truth_same (One a.seat (Sign p)) m m _ _ (c.sign.ensures p (c.voxel-v.ensures.0 ∙ e)) c.told.ensures
+    says_as whether_of truth_f truth_answer_of truth_same (One a.seat (Sign p)) m m _ _ (c.sign.ensures p (c.voxel-v.ensures.0 ∙ e)) c.from.ensures

@@ -1,14 +1,7 @@
 use mathlib.Core.Path.{refl}
 use native.Mathlib.Omega.{arith}
-use lib.ListN.{length-set}
 use Rattle.nodes.proofs.Books.{give_step}
 use Rattle.nodes.proofs.cells.give.Goals as goal
-
-pub bounds-book-c : goal.bounds-book-c
-bounds-book-c c = simp length-set (omega arith)
-
-pub bounds-book-8 : goal.bounds-book-8
-bounds-book-8 c = simp length-set (omega arith)
 
 pub returns : goal.returns
 returns c = λ slots masks. give_step _ _ _ c.requires.0 slots masks _ _ c.count-free.ensures (omega arith) c.requires.2 refl

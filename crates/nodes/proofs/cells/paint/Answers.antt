@@ -1,10 +1,12 @@
+use mathlib.Core.Path.{refl, ◌∙◌}
 use native.Mathlib.Omega.{arith}
-use lib.ListN.{length-set}
 use Rattle.nodes.proofs.Changes.{painted}
 use Rattle.nodes.proofs.cells.paint.Goals as goal
-
-pub bounds-masks-n : goal.bounds-masks-n
-bounds-masks-n c = simp length-set (omega arith)
+use Rattle.nodes.proofs.cells.paint.Goals.{then-on, else-on}
 
 pub returns : goal.returns
-returns c = painted _ _ _ _ _ (omega arith) (omega arith) c.whole_word-values.ensures
+returns c =
+    elim c.if-on.branch [
+      | then-on w ↦ painted _ _ _ _ _ (omega arith) (omega arith) (w.masks-is ∙ rw w.if-on.true refl)
+      | else-on w ↦ painted _ _ _ _ _ (omega arith) (omega arith) (w.masks-is ∙ rw w.if-on.false refl)
+    ]

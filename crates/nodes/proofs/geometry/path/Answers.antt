@@ -7,4 +7,4 @@ returns c =
     let a = c.slot.ensures in
     let b = c.slot-2.ensures in
     let d = c.slot-3.ensures in
-    (path_made _ a.0 b.0 d.0, omega (arith, a.1, b.1, d.1))
+    (path_made _ a.is b.is d.is, omega (arith, a.within, b.within, d.within))

@@ -1,27 +1,26 @@
-use native.Mathlib.Omega.{arith}
-use Rattle.means.proofs.Memory.{fitting}
-use Rattle.voxels.specs.Answers.{mem_of}
-use Rattle.pool.proofs.Pairs.{filled_first, filled_second, filled_7, filled_last}
+use mathlib.Core.Path.{◌∙◌}
+use Rattle.nodes.specs.Place.{seen}
+use Rattle.pool.proofs.Guards.{handed_on}
+use Rattle.pool.proofs.Pairs.{both_are, filled_6, filled_7, filled_last}
 use Rattle.pool.proofs.pair.filled.Goals as goal
 
-pub bounds-book-a : goal.bounds-book-a
-bounds-book-a c = let a = c.args in omega (arith, (fitting (mem_of a.slots.now a.masks.now a.book.now) c.requires.0).book, c.requires.1)
-
-pub returns-then-book-a-ne1 : goal.returns-then-book-a-ne1
-returns-then-book-a-ne1 c = let a = c.args in filled_first (mem_of a.slots.now a.masks.now a.book.now) c.requires.0 a.a a.b c.requires.1 c.requires.2 c.if-book-a-ne1.true
-
-pub bounds-book-b : goal.bounds-book-b
-bounds-book-b c = let a = c.args in omega (arith, (fitting (mem_of a.slots.now a.masks.now a.book.now) c.requires.0).book, c.requires.2)
-
-pub returns-then-book-b-ne1 : goal.returns-then-book-b-ne1
-returns-then-book-b-ne1 c = let a = c.args in filled_second (mem_of a.slots.now a.masks.now a.book.now) c.requires.0 a.a a.b c.requires.1 c.requires.2 (omega arith) c.if-book-b-ne1.true
-
-pub returns-then-no-ne0 : goal.returns-then-no-ne0
-returns-then-no-ne0 c =
+pub returns-then-not-both_filled : goal.returns-then-not-both_filled
+returns-then-not-both_filled c =
     let a = c.args in
-    filled_7 (mem_of a.slots.now a.masks.now a.book.now) c.requires.0 a.a a.b c.requires.1 c.requires.2 (omega arith) c.if-book-b-ne1.false c.solid-no.ensures c.if-no-ne0.true
+    let v = a.pool.now in
+    filled_6 v.n (seen v a.book.now) a.a a.b (both_are v.n v.slots.now v.masks.now a.book.now a.a a.b (c.requires.1, c.requires.2) c.both_filled.ensures) c.if-not-both_filled.true
+
+pub returns-in_err-solid : goal.returns-in_err-solid
+returns-in_err-solid c =
+    let a = c.args in
+    let v = a.pool.now in
+    handed_on _ _ c.from_residual.ensures.1
+    ∙ filled_7 v.n (seen v a.book.now) a.a a.b (both_are v.n v.slots.now v.masks.now a.book.now a.a a.b (c.requires.1, c.requires.2) c.both_filled.ensures)
+    c.if-not-both_filled.false _ (c.in_err-solid.ensures _)
 
 pub returns : goal.returns
 returns c =
     let a = c.args in
-    filled_last (mem_of a.slots.now a.masks.now a.book.now) c.requires.0 a.a a.b c.requires.1 c.requires.2 (omega arith) c.if-book-b-ne1.false c.solid-no.ensures c.if-no-ne0.false c.solid.ensures
+    let v = a.pool.now in
+    filled_last v.n (seen v a.book.now) a.a a.b (both_are v.n v.slots.now v.masks.now a.book.now a.a a.b (c.requires.1, c.requires.2) c.both_filled.ensures)
+    c.if-not-both_filled.false (c.in_ok-solid.ensures _) (c.solid-2.ensures _)

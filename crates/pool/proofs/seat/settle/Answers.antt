@@ -1,11 +1,13 @@
 use mathlib.Core.Path.{sym}
-use Rattle.nodes.specs.Layout.{st}
+use Rattle.nodes.specs.Pool.{state}
 use Rattle.sound.proofs.Book.{st_mark}
 use Rattle.pool.proofs.Tasks.{change_by}
 use Rattle.pool.proofs.seat.settle.Goals as goal
 
-pub returns : goal.returns
-returns c =
+pub returns-clause-turned : goal.returns-clause-turned
+unfolding state
+returns-clause-turned c =
     let a = c.args in
-    change_by a.task a.n a.seat (st a.n a.slots.now a.masks.now a.book.now) (sym (st_mark a.n a.slots.now a.masks.now a.book.now a.seat c.requires.1)) c.mark_after-m.ensures c.work.ensures
+    let p = a.pool.now in
+    change_by a.task p.n a.seat (state p) (sym (st_mark p.n p.slots.now p.masks.now p.book.now a.seat c.requires)) c.mark_after-m.ensures c.work.ensures.turned
     (c.set_mark.ensures _ _ _)

@@ -1,8 +1,7 @@
 use mathlib.Core.Path.{◌≡◌}
 use mathlib.Core.List.{List}
-use Prim.Native.Nat.{ℕ, ◌-◌, ◌≤◌}
+use Prim.Native.Nat.{ℕ}
 use Rattle.nodes.specs.Layout.{st}
-use Rattle.nodes.specs.Range.{Cells}
 use Rattle.nodes.specs.Each.{each_s}
 use Rattle.signs.proofs.Fills.{under}
 use Rattle.signs.proofs.fill.+fill_signs.Given as goal
@@ -11,8 +10,4 @@ abbrev pub decreases-fill_signs : goal.decreases-fill_signs
 decreases-fill_signs l = l.level
 
 abbrev pub invariant-loop-k : goal.invariant-loop-k
-invariant-loop-k l = (l.k ≤ l.m) × (Cells l.n l.slots l.masks)
-    × ((book : List ℕ) → st l.n l.slots l.masks book ≡ each_s (under l.n l.level l.x) l.k (st l.n l.initial.slots l.masks book))
-
-abbrev pub decreases-loop-k : goal.decreases-loop-k
-decreases-loop-k l = l.m - l.k
+invariant-loop-k l = (book : List ℕ) → st l.n l.slots l.masks book ≡ each_s (under l.n l.level l.x) l.k (st l.n l.initial.slots l.masks book)

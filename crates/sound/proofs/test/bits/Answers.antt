@@ -1,10 +1,6 @@
-use mathlib.Core.Path.{refl}
 use native.Mathlib.Omega.{arith}
-use lib.Count.{ones-le}
+use Rattle.sound.proofs.Links.{ones_bits}
 use Rattle.sound.proofs.test.bits.Goals as goal
 
-pub overflow_cast-result : goal.overflow_cast-result
-overflow_cast-result c = omega (arith, ones-le 64 c.args.w (omega arith))
-
 pub returns : goal.returns
-returns c = (refl, ones-le 64 c.args.w (omega arith))
+returns c = ones_bits _ (omega arith)

@@ -1,24 +1,21 @@
-use mathlib.Core.Path.{sym, ◌∙◌}
 use native.Mathlib.Omega.{arith}
 use Rattle.nodes.proofs.Paths.{stands_below}
-use Rattle.nodes.proofs.States.{cells_of, word_may, st_slot, sized_kept}
 use Rattle.trees.proofs.Takes.{take_flipped, take_plain}
 use Rattle.trees.proofs.take.take_over.Goals as goal
 
-pub word-c-requires : goal.word-c-requires
-word-c-requires c = word_may (cells_of c.requires.0) c.requires.4
-
 pub overflow_sub-level : goal.overflow_sub-level
-overflow_sub-level c = omega (arith, c.requires.2)
+overflow_sub-level c = omega (arith, c.requires.1)
 
 pub overflow_add-c : goal.overflow_add-c
-overflow_add-c c = omega (arith, c.word-c.ensures, c.requires.5, c.requires.0.most)
+overflow_add-c c = omega (arith, c.word-c.ensures, c.requires.4, c.args.pool.now.sized.most)
 
 pub turn-requires : goal.turn-requires
-turn-requires c = let p = c.requires in let k = c.take_child.auto in (sized_kept p.0 k.slots k.masks k.book, stands_below p.1 (λ e. omega (arith, p.2)) _ (omega (arith, c.word-c.ensures, p.5)))
+turn-requires c = let p = c.requires in rw c.take_child.ensures.kept.n (stands_below p.0 (λ e. omega (arith, p.1)) _ (omega (arith, c.word-c.ensures, p.4)))
 
-pub returns-in-Subtract : goal.returns-in-Subtract
-returns-in-Subtract c = take_flipped _ _ _ _ _ _ _ (c.word-c.ensures ∙ sym (st_slot _ _ _ c.requires.4)) c.take_child.ensures c.in-Subtract.is c.turn.ensures
+pub returns-in-Subtract-clause-turned : goal.returns-in-Subtract-clause-turned
+returns-in-Subtract-clause-turned c =
+    let k = c.take_child.ensures in
+    take_flipped _ _ _ _ _ _ _ c.word-c.ensures k.turned c.in-Subtract.is (simp k.kept.n at c.turn.ensures.turned)
 
-pub returns-in_default : goal.returns-in_default
-returns-in_default c = take_plain _ _ _ _ _ _ _ (c.word-c.ensures ∙ sym (st_slot _ _ _ c.requires.4)) c.take_child.ensures c.args.join c.in_default.not-Subtract
+pub returns-in_default-clause-turned : goal.returns-in_default-clause-turned
+returns-in_default-clause-turned c = take_plain _ _ _ _ _ _ _ c.word-c.ensures c.take_child.ensures.turned c.args.join c.in_default.not-Subtract

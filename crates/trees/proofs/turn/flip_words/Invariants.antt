@@ -1,11 +1,10 @@
-use Prim.Native.Nat.{◌+◌, ◌-◌, ◌*◌, ◌≤◌}
+use mathlib.Core.Path.{◌≡◌}
+use mathlib.Core.Bool.{cond}
+use Prim.Native.Nat.{ℕ}
 use lib.ListN.{get_or}
+use lib.Dec.{ltb}
 use Rattle.floats.specs.Value.{negated}
-use Rattle.trees.proofs.Copies.{Given}
 use Rattle.trees.proofs.turn.flip_words.Given as goal
 
-abbrev pub invariant-loop-i : goal.invariant-loop-i
-invariant-loop-i l = (l.i ≤ 64) × Given (64 + l.c) (λ r. negated (get_or l.initial.slots (64 * (64 + l.c) + r) 0)) l.initial.slots l.slots l.i
-
-abbrev pub decreases-loop-i : goal.decreases-loop-i
-decreases-loop-i l = 64 - l.i
+abbrev pub invariant-loop-w : goal.invariant-loop-w
+invariant-loop-w l = (k : ℕ) → get_or l.cell k 0 ≡ cond (ltb k l.w-index) (negated (get_or l.initial.cell k 0)) (get_or l.initial.cell k 0)

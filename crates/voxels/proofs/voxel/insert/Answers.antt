@@ -1,67 +1,57 @@
+use Rattle.std.proofs.Common.{rules}
 use mathlib.Core.Bool.{not}
-use mathlib.Core.Path.{ap}
-use native.Mathlib.Omega.{arith}
+use mathlib.Core.Path.{refl, ap}
 use Rattle.seats.specs.Call.{One, Insert}
 use Rattle.nodes.specs.Layout.{st}
+use Rattle.nodes.specs.Pool.{state}
 use Rattle.nodes.specs.Walk.{point_of}
-use Rattle.nodes.proofs.States.{cells_of}
-use Rattle.voxels.specs.Answers.{mem_of}
-use Rattle.voxels.proofs.Promises.{counted_1, counted_2, is_sized}
 use Rattle.sound.proofs.Checks.{passed, failed}
-use Rattle.voxels.proofs.Ends.{ends_low}
-use Rattle.voxels.proofs.Turns.{inserting, insert_4, edit_blocked, edit_done}
+use Rattle.voxels.specs.Answers.{mem_of, done_of}
+use Rattle.voxels.proofs.Promises.{admits, barred_says}
+use Rattle.voxels.proofs.Ends.{ends_in}
+use Rattle.voxels.proofs.Turns.{inserting, insert_4, edit_blocked, edit_done, returned}
 use Rattle.voxels.proofs.voxel.insert.Goals as goal
 
-pub returns-then-n-eq0 : goal.returns-then-n-eq0
-returns-then-n-eq0 c p e =
+pub returns-in_err-n : goal.returns-in_err-n
+returns-in_err-n c p e =
     let a = c.args in
-    counted_1 _ (One a.seat (Insert p a.w)) _ _ c.cells-n.ensures c.if-n-eq0.true
-
-pub returns-then-seat-gt7 : goal.returns-then-seat-gt7
-returns-then-seat-gt7 c p e = counted_2 _ _ c.cells-n.ensures c.if-n-eq0.false _ _ (Insert p _) c.if-seat-gt7.true
+    barred_says done_of (λ n. refl) a.seat (Insert p a.w) (mem_of a.slots.now a.masks.now a.book.now) _ c.from_residual.ensures.1 c.in_err-n.ensures.told
 
 pub returns-then-not-finite_word : goal.returns-then-not-finite_word
 returns-then-not-finite_word c p e =
     let a = c.args in
-    insert_4 (mem_of a.slots.now a.masks.now a.book.now) _ c.cells-n.ensures c.if-n-eq0.false a.seat c.if-seat-gt7.false p a.w (failed _ c.finite_word.ensures (ap not c.if-not-finite_word.true))
+    let d = admits (mem_of a.slots.now a.masks.now a.book.now) _ a.seat c.in_ok-n.ensures.told in
+    insert_4 d.0 a.seat d.1 p a.w (failed _ c.finite_word.ensures (ap not c.if-not-finite_word.true))
 
-pub seek-r-requires : goal.seek-r-requires
-seek-r-requires c =
+pub insert_blocked-requires : goal.insert_blocked-requires
+insert_blocked-requires c =
     let a = c.args in
-    let h = c.if-seat-gt7.false in
-    let z = is_sized (mem_of a.slots.now a.masks.now a.book.now) _ c.cells-n.ensures c.if-n-eq0.false in
-    (cells_of z, omega (arith, h), c.path.ensures.1)
-
-pub insert_blocked-no-requires : goal.insert_blocked-no-requires
-insert_blocked-no-requires c =
-    let a = c.args in
-    let h = c.if-seat-gt7.false in
-    let z = is_sized (mem_of a.slots.now a.masks.now a.book.now) _ c.cells-n.ensures c.if-n-eq0.false in (
-      z,
-      ends_low (st _ a.slots.now a.masks.now a.book.now) (point_of a.v) z.most (omega (arith, h), c.seek-r.ensures _ (point_of a.v) c.path.ensures.0),
-      (passed _ c.finite_word.ensures (ap not c.if-not-finite_word.false)),
+    let z = c.in_ok-n.ensures.fit in (
+      record { most = z.0.most; book_fit = z.0.book_fit },
+      ends_in _ (st _ a.slots.now a.masks.now a.book.now) a.seat _ (z.1, c.seek-end.ensures _ _ c.path.ensures.0),
+      passed _ c.finite_word.ensures (ap not c.if-not-finite_word.false),
     )
 
-pub returns-then-no-ne0 : goal.returns-then-no-ne0
-returns-then-no-ne0 c p e =
+pub returns-in_err-insert_blocked : goal.returns-in_err-insert_blocked
+returns-in_err-insert_blocked c p e =
     let a = c.args in
-    let h = c.if-seat-gt7.false in
-    edit_blocked (inserting a.w (passed _ c.finite_word.ensures (ap not c.if-not-finite_word.false))) (mem_of a.slots.now a.masks.now a.book.now) _ c.cells-n.ensures c.if-n-eq0.false
-    a.seat a.v h p e _ (c.insert_blocked-no.ensures (point_of a.v) a.seat (omega (arith, h), c.seek-r.ensures _ (point_of a.v) c.path.ensures.0)) c.if-no-ne0.true
+    let d = admits (mem_of a.slots.now a.masks.now a.book.now) _ a.seat c.in_ok-n.ensures.told in
+    edit_blocked (inserting a.w (passed _ c.finite_word.ensures (ap not c.if-not-finite_word.false))) d.0 a.seat a.v d.1 p e
+    (c.in_err-insert_blocked.ensures (point_of a.v) a.seat (d.1, c.seek-end.ensures _ _ c.path.ensures.0)) c.from_residual-in_err-insert_blocked.ensures.1
 
 pub insert_unmark-requires : goal.insert_unmark-requires
+unfolding state
 insert_unmark-requires c =
     let a = c.args in
-    let h = c.if-seat-gt7.false in
-    let z = is_sized (mem_of a.slots.now a.masks.now a.book.now) _ c.cells-n.ensures c.if-n-eq0.false in
-    (z, (passed _ c.finite_word.ensures (ap not c.if-not-finite_word.false)), (omega (arith, h), c.seek-r.ensures _ (point_of a.v) c.path.ensures.0))
+    (passed _ c.finite_word.ensures (ap not c.if-not-finite_word.false), (c.in_ok-n.ensures.fit.1, c.seek-end.ensures _ _ c.path.ensures.0))
 
 pub returns : goal.returns
+unfolding state
 returns c p e =
     let a = c.args in
-    let h = c.if-seat-gt7.false in
+    let d = admits (mem_of a.slots.now a.masks.now a.book.now) _ a.seat c.in_ok-n.ensures.told in
     let u = c.insert_unmark in
-    let k = u.auto in
-    edit_done (inserting a.w (passed _ c.finite_word.ensures (ap not c.if-not-finite_word.false))) (mem_of a.slots.now a.masks.now a.book.now) _ c.cells-n.ensures c.if-n-eq0.false
-    a.seat a.v h p e _ (c.insert_blocked-no.ensures (point_of a.v) a.seat (omega (arith, h), c.seek-r.ensures _ (point_of a.v) c.path.ensures.0))
-    (mem_of u.new.slots u.new.masks u.new.book) (record { slots = k.slots; masks = k.masks; book = k.book }) c.if-no-ne0.false u.ensures
+    returned u.new.pool d.0 u.ensures.kept.n u.ensures.turned (One a.seat (Insert p a.w))
+    (edit_done (inserting a.w (passed _ c.finite_word.ensures (ap not c.if-not-finite_word.false))) d.0 a.seat a.v d.1 p e
+    (c.in_ok-insert_blocked.ensures (point_of a.v) a.seat (d.1, c.seek-end.ensures _ _ c.path.ensures.0)))
+    c.type_inv.slots c.type_inv.masks c.type_inv.book (search rules) (search rules) (search rules)

@@ -1,54 +1,46 @@
-use native.Mathlib.Omega.{arith}
+use Rattle.std.proofs.Common.{rules}
+use mathlib.Core.Path.{refl}
 use Rattle.seats.specs.Call.{One, Remove}
 use Rattle.nodes.specs.Layout.{st}
+use Rattle.nodes.specs.Pool.{state}
 use Rattle.nodes.specs.Walk.{point_of}
-use Rattle.nodes.proofs.States.{cells_of}
-use Rattle.voxels.specs.Answers.{mem_of}
-use Rattle.voxels.proofs.Promises.{counted_1, counted_2, is_sized}
-use Rattle.voxels.proofs.Ends.{ends_low}
-use Rattle.voxels.proofs.Turns.{removing, edit_blocked, edit_done}
+use Rattle.voxels.specs.Answers.{mem_of, done_of}
+use Rattle.voxels.proofs.Promises.{admits, barred_says}
+use Rattle.voxels.proofs.Ends.{ends_in}
+use Rattle.voxels.proofs.Turns.{removing, edit_blocked, edit_done, returned}
 use Rattle.voxels.proofs.voxel.remove.Goals as goal
 
-pub returns-then-n-eq0 : goal.returns-then-n-eq0
-returns-then-n-eq0 c p e = counted_1 _ (One c.args.seat (Remove p)) _ _ c.cells-n.ensures c.if-n-eq0.true
-
-pub returns-then-seat-gt7 : goal.returns-then-seat-gt7
-returns-then-seat-gt7 c p e = counted_2 _ _ c.cells-n.ensures c.if-n-eq0.false _ _ (Remove p) c.if-seat-gt7.true
-
-pub seek-r-requires : goal.seek-r-requires
-seek-r-requires c =
+pub returns-in_err-n : goal.returns-in_err-n
+returns-in_err-n c p e =
     let a = c.args in
-    let h = c.if-seat-gt7.false in
-    let z = is_sized (mem_of a.slots.now a.masks.now a.book.now) _ c.cells-n.ensures c.if-n-eq0.false in
-    (cells_of z, omega (arith, h), c.path.ensures.1)
+    barred_says done_of (λ n. refl) a.seat (Remove p) (mem_of a.slots.now a.masks.now a.book.now) _ c.from_residual.ensures.1 c.in_err-n.ensures.told
 
-pub remove_blocked-no-requires : goal.remove_blocked-no-requires
-remove_blocked-no-requires c =
+pub remove_blocked-requires : goal.remove_blocked-requires
+remove_blocked-requires c =
     let a = c.args in
-    let h = c.if-seat-gt7.false in
-    let z = is_sized (mem_of a.slots.now a.masks.now a.book.now) _ c.cells-n.ensures c.if-n-eq0.false in
-    (z, ends_low (st _ a.slots.now a.masks.now a.book.now) (point_of a.v) z.most (omega (arith, h), c.seek-r.ensures _ (point_of a.v) c.path.ensures.0))
+    let z = c.in_ok-n.ensures.fit in (
+      record { most = z.0.most; book_fit = z.0.book_fit },
+      ends_in _ (st _ a.slots.now a.masks.now a.book.now) a.seat _ (z.1, c.seek-end.ensures _ _ c.path.ensures.0),
+    )
 
-pub returns-then-no-ne0 : goal.returns-then-no-ne0
-returns-then-no-ne0 c p e =
+pub returns-in_err-remove_blocked : goal.returns-in_err-remove_blocked
+returns-in_err-remove_blocked c p e =
     let a = c.args in
-    let h = c.if-seat-gt7.false in
-    edit_blocked removing (mem_of a.slots.now a.masks.now a.book.now) _ c.cells-n.ensures c.if-n-eq0.false a.seat a.v h p e _
-    (c.remove_blocked-no.ensures (point_of a.v) a.seat (omega (arith, h), c.seek-r.ensures _ (point_of a.v) c.path.ensures.0)) c.if-no-ne0.true
+    let d = admits (mem_of a.slots.now a.masks.now a.book.now) _ a.seat c.in_ok-n.ensures.told in
+    edit_blocked removing d.0 a.seat a.v d.1 p e (c.in_err-remove_blocked.ensures (point_of a.v) a.seat (d.1, c.seek-end.ensures _ _ c.path.ensures.0))
+    c.from_residual-in_err-remove_blocked.ensures.1
 
 pub remove_unmark-requires : goal.remove_unmark-requires
-remove_unmark-requires c =
-    let a = c.args in
-    let h = c.if-seat-gt7.false in
-    let z = is_sized (mem_of a.slots.now a.masks.now a.book.now) _ c.cells-n.ensures c.if-n-eq0.false in
-    (z, (omega (arith, h), c.seek-r.ensures _ (point_of a.v) c.path.ensures.0))
+unfolding state
+remove_unmark-requires c = (c.in_ok-n.ensures.fit.1, c.seek-end.ensures _ _ c.path.ensures.0)
 
 pub returns : goal.returns
+unfolding state
 returns c p e =
     let a = c.args in
-    let h = c.if-seat-gt7.false in
+    let d = admits (mem_of a.slots.now a.masks.now a.book.now) _ a.seat c.in_ok-n.ensures.told in
     let u = c.remove_unmark in
-    let k = u.auto in
-    edit_done removing (mem_of a.slots.now a.masks.now a.book.now) _ c.cells-n.ensures c.if-n-eq0.false a.seat a.v h p e _
-    (c.remove_blocked-no.ensures (point_of a.v) a.seat (omega (arith, h), c.seek-r.ensures _ (point_of a.v) c.path.ensures.0))
-    (mem_of u.new.slots u.new.masks u.new.book) (record { slots = k.slots; masks = k.masks; book = k.book }) c.if-no-ne0.false u.ensures
+    returned u.new.pool d.0 u.ensures.kept.n u.ensures.turned (One a.seat (Remove p))
+    (edit_done removing d.0 a.seat a.v d.1 p e
+    (c.in_ok-remove_blocked.ensures (point_of a.v) a.seat (d.1, c.seek-end.ensures _ _ c.path.ensures.0)))
+    c.type_inv.slots c.type_inv.masks c.type_inv.book (search rules) (search rules) (search rules)

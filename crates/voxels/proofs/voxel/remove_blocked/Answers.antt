@@ -1,36 +1,31 @@
-use mathlib.Core.Bool.{not}
-use mathlib.Core.Path.{refl, ap}
-use Prim.Native.Nat.{◌/◌}
-use native.Mathlib.Omega.{arith}
+use mathlib.Core.Path.{refl, sym, ap, ◌∙◌}
 use Rattle.nodes.specs.Layout.{st}
-use Rattle.nodes.specs.Walk.{Reach, need_remove_r}
-use Rattle.sound.proofs.Checks.{passed, failed}
-use Rattle.voxels.proofs.Ends.{ends_none, ends_by, ends_any, blocked_broken, blocked_remove, need_low_remove}
+use Rattle.nodes.specs.Walk.{need_remove_r}
+use Rattle.voxels.specs.Answers.{afford_s, blocked_r}
+use Rattle.voxels.proofs.Ends.{ends_err, ends_ok, ends_either, remove_slot}
 use Rattle.voxels.proofs.Afford.{afford_none}
-use Rattle.voxels.specs.Answers.{blocked_r}
+use borrow.Table.Steps.{cases}
 use Rattle.voxels.proofs.voxel.remove_blocked.Goals as goal
 
-pub returns-then-r-eq0 : goal.returns-then-r-eq0
-returns-then-r-eq0 c p i e =
-    let a = c.args in
-    let s = (st a.n a.slots.now a.masks.now a.book.now) in
-    ap (λ (q : Reach). blocked_r a.n s q (need_remove_r q)) (ends_none s p c.requires.0.most e c.if-r-eq0.true)
+pub returns-in_err-at : goal.returns-in_err-at
+returns-in_err-at c p i e =
+    let v = c.args.pool.now in
+    let b = c.args.book.now in
+    ends_err v.n v.slots.now v.masks.now b i p e (λ q. blocked_r v.n (st v.n v.slots.now v.masks.now b) q (need_remove_r q)) refl
+    (sym c.reached.ensures ∙ c.in_err-at.was) c.from_residual.ensures.1
 
-pub returns-then-not-finite_word : goal.returns-then-not-finite_word
-returns-then-not-finite_word c p i e =
-    let a = c.args in
-    let d = ends_any a.slots.now a.masks.now a.book.now p c.requires.0.most e c.if-r-eq0.false in
-    blocked_broken _ _ _ d.1 _ _ _ (failed _ c.finite_word.ensures (ap not c.if-not-finite_word.true))
-
-pub returns-then-r-eq1 : goal.returns-then-r-eq1
-returns-then-r-eq1 c p i e =
-    let a = c.args in
-    let d = ends_any a.slots.now a.masks.now a.book.now p c.requires.0.most e c.if-r-eq0.false in
-    blocked_remove _ _ d.0 d.1 _ _ (passed _ c.finite_word.ensures (ap not c.if-not-finite_word.false)) (let h = c.if-r-eq1.true in need_low_remove (a.r / 0x100_0000) d.0 (omega (arith, h)))
-    (afford_none _ _ _ _ 0 refl)
+pub returns-then-at-eq0 : goal.returns-then-at-eq0
+returns-then-at-eq0 c p i e =
+    let v = c.args.pool.now in
+    let b = c.args.book.now in
+    ends_either v.n v.slots.now v.masks.now b i p e (λ q. blocked_r v.n (st v.n v.slots.now v.masks.now b) q (need_remove_r q))
+    (sym c.reached.ensures ∙ c.in_ok-at.was)
+    (λ x. afford_none _ _ _ _ _ (cases x (λ t. rw (t, c.if-at-eq0.true) refl) (λ t. rw t refl)) ∙ sym (remove_slot _ _ _ _ x))
 
 pub returns : goal.returns
 returns c p i e =
-    let a = c.args in
-    blocked_remove _ _ _ (ends_by a.slots.now a.masks.now a.book.now p c.requires.0.most e c.if-r-eq0.false (c.active_at-active.ensures a.slots.now a.book.now)) _ _
-    (passed _ c.finite_word.ensures (ap not c.if-not-finite_word.false)) c.need_remove.ensures (c.afford.ensures _ _)
+    let v = c.args.pool.now in
+    let b = c.args.book.now in
+    ends_ok v.n v.slots.now v.masks.now b i p e (λ q. blocked_r v.n (st v.n v.slots.now v.masks.now b) q (need_remove_r q))
+    (sym c.reached.ensures ∙ c.in_ok-at.was) (c.active_at.ensures b)
+    (c.afford.ensures _ _ ∙ ap (afford_s v.n (st v.n v.slots.now v.masks.now b)) c.need_remove.ensures ∙ sym (remove_slot _ _ _ _ c.active_at.result))

@@ -1,0 +1,11 @@
+-- `bitset::or` meets its contract. Assumes nothing.
+use Rattle.std.proofs.Common.{rules}
+use mathlib.Core.Path.{refl, sym, ◌∙◌}
+use Rattle.bitset.proofs.Words.{or_acts}
+use Rattle.bitset.proofs.Loops.{made}
+use Rattle.bitset.proofs.or.Goals as goal
+
+pub returns : goal.returns
+returns c =
+    let e = sym c.each.auto.ws in
+    made or_acts refl c.args.a.now c.args.b.now _ (c.requires.0 ∙ e) (c.requires.1 ∙ e) (λ p h. let t = c.each.ensures p h in search rules)

@@ -1,6 +1,0 @@
-use native.Mathlib.Omega.{arith}
-use Rattle.nodes.specs.Layout.{count_place}
-use Rattle.nodes.proofs.cells.count.Goals as goal
-
-pub overflow_cast-result : goal.overflow_cast-result
-overflow_cast-result c = omega (arith, c.type_inv.book count_place)

@@ -1,4 +1,0 @@
-use Rattle.nodes.proofs.remove.+remove.Given as goal
-
-abbrev pub decreases-remove : goal.decreases-remove
-decreases-remove l = l.level

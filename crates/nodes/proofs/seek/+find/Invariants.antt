@@ -1,4 +1,0 @@
-use Rattle.nodes.proofs.seek.+find.Given as goal
-
-abbrev pub decreases-find : goal.decreases-find
-decreases-find l = l.level

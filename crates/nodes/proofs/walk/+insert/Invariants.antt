@@ -1,4 +1,0 @@
-use Rattle.nodes.proofs.walk.+insert.Given as goal
-
-abbrev pub decreases-insert : goal.decreases-insert
-decreases-insert l = l.level
