@@ -140,7 +140,7 @@ fn filled(file: &mut File, b: &mut [u8]) -> io::Result<usize>
     Ok(n)
 }
 
-// Reads to the end of the file. The buffer has a whole number of records.
+// Reads to the end of the file. The buffer has a whole number of records. So many turns are more than the file has, and bound the loop.
 fn all(file: &mut File, pool: &mut Pool) -> io::Result<Tally> {
     let mut tally = Tally { seen: 0, bad: 0 };
     let mut b = [0u8; 24000];

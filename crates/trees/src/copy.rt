@@ -80,7 +80,8 @@ fn branch(pool: &mut Pool, level: usize, x: usize, y: usize, k: usize)
     }
 }
 
-// Every branch of node x of a level above the leaves, to node y. By while: in a pool that is not sound the copy may change the mask of x, so each step reads it as it then is.
+// Every branch of node x of a level above the leaves, to node y. By while: in a pool that is not sound the copy may change the mask of x, so each step goes to the next branch in
+// the mask as it then is. A `for` over the bits would look at it once, and one over the slots would stop at each.
 #[cycle(branch_branches)]
 fn branches(pool: &mut Pool, level: usize, x: usize, y: usize)
     requires { (Stands pool.old.n level x) × (Stands pool.old.n level y) × (0 < level) }

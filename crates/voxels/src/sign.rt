@@ -3,7 +3,7 @@ ghost use Rattle.std.specs.Prelude.{◌≡◌, List, [], ◌∷◌, ℕ, ◌<◌
 ghost use Rattle.grid.specs.Geometry.{Point};
 ghost use Rattle.seats.specs.Call.{One, Sign};
 ghost use Rattle.nodes.specs.Place.{seen};
-ghost use Rattle.nodes.specs.Walk.{reach_s, voxel_of};
+ghost use Rattle.nodes.specs.Walk.{reach_s, voxel_of, voxels};
 ghost use Rattle.voxels.specs.Answers.{mem_of, Says, EndsAt, InPool, whether_of, signed_r};
 
 use super::admit::admitted;
@@ -35,6 +35,7 @@ pub fn sign(
     seat: u32,
     v: usize,
 ) -> Result<bool, Refusal>
+    requires { v < voxels }
     ensures { (p : Point) → v ≡ voxel_of p → Says whether_of (One seat (Sign p)) (mem_of slots.now masks.now book.now) result (mem_of slots.now masks.now book.now) }
 {
     let n = admitted(slots, masks, book, seat)?;

@@ -7,7 +7,7 @@ ghost use Rattle.floats.specs.Value.{is_finite, equal};
 ghost use Rattle.nodes.specs.Layout.{slots_length};
 ghost use Rattle.nodes.specs.Place.{seen};
 ghost use Rattle.nodes.specs.Change.{mark_s};
-ghost use Rattle.nodes.specs.Walk.{insert_m, reach_s, point_of, voxel_of};
+ghost use Rattle.nodes.specs.Walk.{insert_m, reach_s, point_of, voxel_of, voxels};
 ghost use Rattle.nodes.specs.Remove.{alone_s, remove_m};
 ghost use Rattle.nodes.specs.Pool.{Same, state};
 ghost use Rattle.nodes.specs.Range.{Booked};
@@ -55,6 +55,7 @@ pub fn lookup(
     seat: u32,
     v: usize,
 ) -> Result<Option<f32>, Refusal>
+    requires { v < voxels }
     ensures { (p : Point) → v ≡ voxel_of p → Says found_of (One seat (Lookup p)) (mem_of slots.now masks.now book.now) result (mem_of slots.now masks.now book.now) }
 {
     let n = admitted(slots, masks, book, seat)?;
@@ -110,6 +111,7 @@ pub fn insert(
     v: usize,
     w: u32,
 ) -> Result<(), Refusal>
+    requires { v < voxels }
     ensures { (p : Point) → v ≡ voxel_of p → Says done_of (One seat (Insert p w)) (mem_of slots.old masks.old book.old) result (mem_of slots.new masks.new book.new) }
 {
     let n = admitted(slots, masks, book, seat)?;
@@ -185,6 +187,7 @@ pub fn remove(
     seat: u32,
     v: usize,
 ) -> Result<(), Refusal>
+    requires { v < voxels }
     ensures { (p : Point) → v ≡ voxel_of p → Says done_of (One seat (Remove p)) (mem_of slots.old masks.old book.old) result (mem_of slots.new masks.new book.new) }
 {
     let n = admitted(slots, masks, book, seat)?;
