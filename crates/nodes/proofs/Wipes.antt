@@ -144,7 +144,7 @@ middle_by n c s p f q = q ∙ ap₂ (λ (w : ℕ) (r : St). cell_s c w false r) 
 
 -- ---- its links, one after the other: a step at the slots whose bits are on in a word
 module _ (f : ℕ → St → St) where
-  abbrev some_s : ℕ → ℕ → St → St
+  abbrev pub some_s : ℕ → ℕ → St → St
   some_s w k s = cond (word_bit w k) (f k s) s
 
   some_none : (w m : ℕ) (s : St) → ((k : ℕ) → k < m → word_bit w k ≡ false) → each_s (some_s w) m s ≡ s
@@ -157,7 +157,7 @@ module _ (f : ℕ → St → St) where
 
   -- the first of them done, the others are left
   module _ {w i : ℕ} (d : Leads w i) (s : St) where
-    some_first : (m : ℕ) → m ≤ 64 → i < m → each_s (some_s w) m s ≡ each_s (some_s (less w i)) m (f i s)
+    pub some_first : (m : ℕ) → m ≤ 64 → i < m → each_s (some_s w) m s ≡ each_s (some_s (less w i)) m (f i s)
     unfolding each_s
     some_first zero h l = absurd (omega arith)
     some_first (suc m) h l = elim (is_or_not i m) [
@@ -172,7 +172,7 @@ module _ (f : ℕ → St → St) where
 
 -- a cell is given back at each
 module _ (n x : ℕ) where
-  abbrev return_at : ℕ → St → St
+  abbrev pub return_at : ℕ → St → St
   return_at k s = return_s n (s.slot x k) s
 
   unlink_kid : (k : ℕ) (s : St) → (unlink_s n x k s).kid ≡ s.kid

@@ -23,6 +23,14 @@ pub fn put_at(slots: &mut [u32], masks: &mut [u64], n: usize, i: usize, w: u32, 
     bitset::set(masks, 64 * (TOP_MASKS + n) + i, active);
 }
 
+// The same of slot k of node x.
+pub fn put(slots: &mut [u32], masks: &mut [u64], n: usize, x: usize, k: usize, w: u32, active: bool)
+    requires { (Cells n slots.old masks.old) × In n x k }
+    ensures { (book : List ℕ) → st n slots.new masks.new book ≡ put_s x k w active (st n slots.old masks.old book) }
+{
+    put_at(slots, masks, n, memory::word_of(x, k), w, active);
+}
+
 // The 64 words of cell c.
 fn fill(slots: &mut [u32], c: usize, w: u32)
     requires { (c < 65536) × (slots_length (c + 1) ≤ length slots.old) }
@@ -39,6 +47,15 @@ fn paint(masks: &mut [u64], n: usize, c: usize, on: bool)
 {
     masks[TOP_MASKS + c] = 0;
     masks[BOTH_TOP_MASKS + n + c] = if on { u64::MAX } else { 0 };
+}
+
+// The slots of cell c all hold w, active or hidden.
+pub fn blank(slots: &mut [u32], masks: &mut [u64], n: usize, c: usize, w: u32, active: bool)
+    requires { (Cells n slots.old masks.old) × (c < n) }
+    ensures { (book : List ℕ) → st n slots.new masks.new book ≡ cell_s c w active (st n slots.old masks.old book) }
+{
+    fill(slots, c, w);
+    paint(masks, n, c, active);
 }
 
 // The number of free cells, as recorded.
@@ -103,14 +120,7 @@ impl Pool<'_> {
         ensures kept { Same self.old self.new }
         ensures turned { state self.new ≡ put_s x k w active (state self.old) }
     {
-        put_at(
-            self.slots,
-            self.masks,
-            self.n,
-            memory::word_of(x, k),
-            w,
-            active,
-        );
+        put(self.slots, self.masks, self.n, x, k, w, active);
     }
 
     // The slot's word and both its bits.
@@ -130,8 +140,7 @@ impl Pool<'_> {
         ensures kept { Same self.old self.new }
         ensures turned { state self.new ≡ cell_s c w active (state self.old) }
     {
-        fill(self.slots, c, w);
-        paint(self.masks, self.n, c, active);
+        blank(self.slots, self.masks, self.n, c, w, active);
     }
 
     // The number of free cells, as recorded.

@@ -21,18 +21,18 @@ face_ends {b} {m} {a} s h = omega (arith, mul-le-mul_right (m * m) h)
 
 -- ---- slot `at j` gives the sign that w then gets there
 module _ (bs : List ℕ) (n x : ℕ) (at : ℕ → ℕ) (w : ℕ → Bool → St → St) where
-  abbrev along : ℕ → Bool → St → Bool × St
+  abbrev pub along : ℕ → Bool → St → Bool × St
   along j g s = let h = behind_s bs n s x (at j) g in (h, w (at j) h s)
 
   -- m steps from g and s on have come to g' and s'
-  abbrev Carried : Bool → St → ℕ → Bool → St → Type 0
+  abbrev pub Carried : Bool → St → ℕ → Bool → St → Type 0
   Carried g s m g' s' = ◌≡◌ {A = Bool × St} (g', s') (carry_s along m g s)
 
-  carry_none : (g : Bool) (s : St) → Carried g s 0 g s
+  pub carry_none : (g : Bool) (s : St) → Carried g s 0 g s
   unfolding carry_s
   carry_none g s = refl
 
-  carry_more : (g : Bool) (s : St) (m : ℕ) {g' g'' : Bool} {s' s'' : St} → Carried g s m g' s' → g'' ≡ behind_s bs n s' x (at m) g' → s'' ≡ w (at m) g'' s' → Carried g s (m + 1) g'' s''
+  pub carry_more : (g : Bool) (s : St) (m : ℕ) {g' g'' : Bool} {s' s'' : St} → Carried g s m g' s' → g'' ≡ behind_s bs n s' x (at m) g' → s'' ≡ w (at m) g'' s' → Carried g s (m + 1) g'' s''
   unfolding carry_s
   carry_more g s m {g'} {g''} {s'} {s''} p q r =
       (λ i. (g'', r i))

@@ -63,7 +63,7 @@ module _ (ws : List ℕ) where
   join_every n e = fold_all 0 join 0 (λ i v. not (negative v) ≡ every passes i) ws joined none_joined ∙ ap (every passes) e
 
 -- each group passes where each slot does
-groups : (p : ℕ → Bool) (m : ℕ) → every (group p) m ≡ every p (64 * m)
+pub groups : (p : ℕ → Bool) (m : ℕ) → every (group p) m ≡ every p (64 * m)
 groups p m =
     both_ways (every (group p) m) (every p (64 * m))
     (λ e. every_intro p (64 * m) (λ k l.

@@ -10,7 +10,7 @@ use std::io;
 fn accepted(n: usize) -> bool
     requires { n ≤ 65536 }
 {
-    sound::lengths::cells(4096 + 64 * n, 128 + 2 * n, 9 + 2 * n).is_some()
+    sound::lengths::cells(4096 + 64 * n, 128 + 2 * n, 9 + 2 * n) == Some(n)
 }
 
 // Writes n and the verdict.

@@ -94,7 +94,7 @@ one_less {x} {a} {b} e = let d : length a ≡ suc (length b) = ap length e in om
 
 -- ---- what a walk still has to give; a loop over it begins with all
 abbrev pub to_give : Links → List ℕ
-to_give l = links_left l.view.slots.now l.view.masks.now l.last l.group l.bits.rest
+to_give l = links_left l.slots.now l.masks.now l.last l.group l.bits.rest
 
 pub begins : {i j : Links} {t : List ℕ} → i ≡ j → to_give j ≡ t → to_give i ≡ t
 begins e f = ap (λ (i : Links). to_give i) e ∙ f

@@ -59,6 +59,10 @@ module _ (n : ℕ) (s : St) (i : ℕ) (p : Point) {r : Maybe End} (e : EndsAt n 
           let d = ends_some in
           f d.0 d.1 d.4 d.5 ∙ sym (remove_here n s p 2 i (omega arith) (d.2 ∙ ap (λ (l : ℕ). at l d.0 d.1) leaf) (g d.0 d.1 d.4 (leaf_cell d.3 leaf) d.5))
 
+-- what three slices hold, where each is what one of two ways left of it
+pub st_as : (n : ℕ) {slots slots' masks masks' book book' : List ℕ} → slots ≡ slots' → masks ≡ masks' → book ≡ book' → st n slots masks book ≡ st n slots' masks' book'
+st_as n a b c = λ i. st n (a i) (b i) (c i)
+
 -- ---- the end, by the word and the value bit that are read there
 
 -- a slot of a level that holds the word w, active or hidden as a says
@@ -131,6 +135,12 @@ module _ (n : ℕ) (slots masks book : List ℕ) (i : ℕ) (p : Point) {r : Mayb
 pub signed_slot : (l w : ℕ) (filled x : Bool) → signed_r (slot_r l x w) filled ≡ cond filled (Ok (negative w)) (Err Unfilled)
 signed_slot l w filled true = refl
 signed_slot l w filled false = refl
+
+-- at a leaf an insert needs no cell, whatever is there
+pub leaf_need : {l : ℕ} (x y : Bool) → l ≡ 0 → cond x (cond y 0 l) l ≡ 0
+leaf_need true true e = refl
+leaf_need true false e = e
+leaf_need false y e = e
 
 module _ (n : ℕ) (s : St) (l u : ℕ) where
   pub insert_slot : (w : ℕ) (x : Bool) → (let q = slot_r l x u in blocked_r n s q (need_insert_r q w)) ≡ afford_s n s (cond x (cond (equal u w) 0 l) l)

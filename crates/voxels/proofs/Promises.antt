@@ -40,23 +40,32 @@ counted n m e = let d = cond_some (fits m) (cells_of m) n (sym e) in record { fi
 pub not_counted : (m : Mem) → None ≡ cond (fits m) (Some (cells_of m)) None → fits m ≡ false
 not_counted m e = cases (fits m) (λ f. absurd (none-some (cells_of m) (e ∙ rw f refl))) (λ f. f)
 
--- ---- a refusal, in the form f of an answer
+-- ---- a refusal by its number, in any form f of an answer
+module _ {R : Type 0} (f : Answer → R) where
+  pub blocked_says : (c : Call) (m : Mem) (n : ℕ) → refusal (reads_in m) c ≡ some n → Says f c m (f (refused n)) m
+  blocked_says c m n r = (refused n, refl, rw r (refl, refl))
+
+  -- refusal 1, of any call
+  pub counted_1 : (c : Call) (m : Mem) → fits m ≡ false → Says f c m (f (refused 1)) m
+  counted_1 c m z = blocked_says c m 1 (rw z refl)
+
+  -- refusal 2, of a call on one seat
+  pub counted_2 : (i : ℕ) (x : Act) (m : Mem) → fits m ≡ true → 7 < i → Says f (One i x) m (f (refused 2)) m
+  counted_2 i x m t l = blocked_says (One i x) m 2 (rw (t, le-leb 8 i l) refl)
+
+-- ---- a refusal as an error, in the form f of an answer
 module _ {T : Type 0} (f : Answer → Result T Refusal) (err : (n : ℕ) → f (refused n) ≡ Err (refusal_at n)) where
+  -- a refusal by its number is the error of that number
+  as_error : (c : Call) (m : Mem) {n : ℕ} → Says f c m (f (refused n)) m → Says f c m (Err (refusal_at n)) m
+  as_error c m {n} = subst (λ (r : Result T Refusal). Says f c m r m) (err n)
+
   -- the call c is refused with e
   pub refused_says : (c : Call) (m : Mem) (e : Refusal) → refusal (reads_in m) c ≡ some (number_of e) → Says f c m (Err e) m
-  refused_says c m e r = (refused (number_of e), sym (err (number_of e) ∙ ap Err (at_number e)), rw r (refl, refl))
+  refused_says c m e r = subst (λ (e : Refusal). Says f c m (Err e) m) (at_number e) (as_error c m (blocked_says f c m (number_of e) r))
 
   -- the same, where a `?` hands on e as r
   pub exit_says : (c : Call) (m : Mem) (e : Refusal) {r : Result T Refusal} → IsErrAnd r (λ y. y ≡ e) → refusal (reads_in m) c ≡ some (number_of e) → Says f c m r m
   exit_says c m e {r} h is = rw (exit_is r h) (refused_says c m e is)
-
-  -- refusal 1, of any call
-  pub counted_1 : (c : Call) (m : Mem) → fits m ≡ false → Says f c m (Err Lengths) m
-  counted_1 c m z = refused_says c m Lengths (rw z refl)
-
-  -- refusal 2, of a call on one seat
-  pub counted_2 : (i : ℕ) (x : Act) (m : Mem) → fits m ≡ true → 7 < i → Says f (One i x) m (Err Seat) m
-  counted_2 i x m t l = refused_says (One i x) m Seat (rw (t, le-leb 8 i l) refl)
 
   -- where `admitted` refuses
   pub barred_says : (i : ℕ) (x : Act) (m : Mem) (e : Refusal) {r : Result T Refusal} → IsErrAnd r (λ y. y ≡ e) → Err e ≡ admitted_s m i → Says f (One i x) m r m
@@ -66,9 +75,9 @@ module _ {T : Type 0} (f : Answer → Result T Refusal) (err : (n : ℕ) → f (
       is k q = subst (λ (e : Refusal). Says f (One i x) m (Err e) m) q
 
       go : (t l : Bool) → fits m ≡ t → leb 8 i ≡ l → Err e ≡ cond t (cond l (Err Seat) (Ok (cells_of m))) (Err Lengths) → Says f (One i x) m (Err e) m
-      go true true t l r = is Seat (cc) (counted_2 i x m t (leb-true 8 i l))
+      go true true t l r = is Seat (cc) (as_error (One i x) m (counted_2 f i x m t (leb-true 8 i l)))
       go true false t l r = cc
-      go false l t _ r = is Lengths (cc) (counted_1 (One i x) m t)
+      go false l t _ r = is Lengths (cc) (as_error (One i x) m (counted_1 f (One i x) m t))
 
 -- where it does not
 pub admits : (m : Mem) (n i : ℕ) → Ok n ≡ admitted_s m i → Counted n m × (i < 8)

@@ -1,15 +1,14 @@
 // The calls on one voxel of a seat, by the number of the voxel. Each tests what it was given, and walks to the voxel and looks at the path and at the free cells that it
 // needs before it changes anything.
-ghost use Rattle.std.specs.Prelude.{◌≡◌, true, not, cond, List, [], ◌∷◌, ℕ, ◌<◌};
+ghost use Rattle.std.specs.Prelude.{◌≡◌, true, cond, List, [], ◌∷◌, ℕ, ◌<◌};
 ghost use Rattle.grid.specs.Geometry.{Point};
 ghost use Rattle.seats.specs.Call.{One, Lookup, Insert, Remove};
 ghost use Rattle.floats.specs.Value.{is_finite, equal};
-ghost use Rattle.nodes.specs.Layout.{slots_length};
+ghost use Rattle.nodes.specs.Layout.{st, Sized};
 ghost use Rattle.nodes.specs.Place.{seen};
 ghost use Rattle.nodes.specs.Change.{mark_s};
 ghost use Rattle.nodes.specs.Walk.{insert_m, reach_s, point_of, voxel_of, voxels};
-ghost use Rattle.nodes.specs.Remove.{alone_s, remove_m};
-ghost use Rattle.nodes.specs.Pool.{Same, state};
+ghost use Rattle.nodes.specs.Remove.{remove_m};
 ghost use Rattle.nodes.specs.Range.{Booked};
 ghost use Rattle.voxels.specs.Answers.{mem_of, Says, EndsAt, InPool, found_of, done_of, reached_r, shown_r, insert_blocked, remove_blocked};
 
@@ -63,43 +62,74 @@ pub fn lookup(
     shown(&pool, pool.seek(seat as usize, geometry::path(v)))
 }
 
-// The cells that an insert of w needs where the walk ended at an active or a hidden slot of the word u: one for each level below it, and none where it holds w. At a leaf
-// nothing is compared.
+// The cells that an insert of w needs where the walk ended at an active or a hidden slot of the word u: one for each level below it, and none where it holds w.
 fn need_insert(level: usize, active: bool, u: u32, w: u32) -> usize
     requires { (is_finite u ≡ true) × (is_finite w ≡ true) }
     ensures { result ≡ cond active (cond (equal u w) 0 level) level }
 {
-    if level > 0 && active && floats::equal_words(u, w) {
+    if active && floats::equal_words(u, w) {
         0
     } else {
         level
     }
 }
 
-// How an insert is refused at the end of its walk.
+// How an insert is refused at the end of its walk. At a leaf no cell is needed, and nothing more is read.
 fn insert_blocked(pool: &View<'_>, book: &[u32], end: Option<End>, w: u32) -> Result<(), Refusal>
     requires { (Booked pool.now.n book.now) × InPool pool.now.n end × (is_finite w ≡ true) }
     ensures { (p : Point) (i : ℕ) → EndsAt pool.now.n (seen pool.now book.now) i p end
         → result ≡ insert_blocked pool.now.n (seen pool.now book.now) p w i }
 {
     let (at, u) = reached(pool, end)?;
+    if at.level == 0 {
+        return Ok(());
+    }
     let active = pool.active_at(at.place);
     free::afford(book, pool.n, need_insert(at.level, active, u, w))
 }
 
+// The insert by a walk that changes slots on its way. Here alone the slices become a pool: where the first walk ended at a leaf they are written as C lends them, since a pool
+// that methods reach through memory costs such an insert up to an eighth of its time.
+fn insert_by_walk(
+    slots: &mut [u32],
+    masks: &mut [u64],
+    book: &mut [u32],
+    n: usize,
+    seat: usize,
+    v: usize,
+    w: u32,
+)
+    requires { (Sized n slots.old masks.old book.old) × (seat < 8) × (is_finite w ≡ true) }
+    ensures { st n slots.new masks.new book.new ≡ insert_m 3 (2 ∷ 2 ∷ []) n (point_of v) w seat (st n slots.old masks.old book.old) }
+{
+    let mut pool = Pool {
+        slots,
+        masks,
+        book,
+        n,
+    };
+    pool.insert(2, seat, v, w);
+}
+
 // The insert, where nothing refuses it and its walk ended there. At a leaf the slot is known, and no second walk is made.
-fn insert_unmark(pool: &mut Pool, seat: usize, v: usize, w: u32, end: Option<End>)
-    requires { (is_finite w ≡ true) × EndsAt pool.old.n (state pool.old) seat (point_of v) end }
-    ensures kept { Same pool.old pool.new }
-    ensures turned { state pool.new ≡ mark_s seat 0 (insert_m 3 (2 ∷ 2 ∷ []) pool.old.n (point_of v) w seat (state pool.old)) }
+fn insert_unmark(
+    slots: &mut [u32],
+    masks: &mut [u64],
+    book: &mut [u32],
+    n: usize,
+    seat: usize,
+    v: usize,
+    w: u32,
+    end: Option<End>,
+)
+    requires { (Sized n slots.old masks.old book.old) × (is_finite w ≡ true) × EndsAt n (st n slots.old masks.old book.old) seat (point_of v) end }
+    ensures { st n slots.new masks.new book.new ≡ mark_s seat 0 (insert_m 3 (2 ∷ 2 ∷ []) n (point_of v) w seat (st n slots.old masks.old book.old)) }
 {
     match end {
-        Some(at) if at.level == 0 => cells::put_at(
-            pool.slots, pool.masks, pool.n, at.place, w, true,
-        ),
-        _ => pool.insert(2, seat, v, w),
+        Some(at) if at.level == 0 => cells::put_at(slots, masks, n, at.place, w, true),
+        _ => insert_by_walk(slots, masks, book, n, seat, v, w),
     }
-    cells::set_mark(pool.book, seat, 0);
+    cells::set_mark(book, seat, 0);
 }
 
 // The voxel becomes active with the value of the word w, and the seat is no longer filled.
@@ -121,13 +151,7 @@ pub fn insert(
     let view = View { slots, masks, n };
     let end = view.seek(seat as usize, geometry::path(v));
     insert_blocked(&view, book, end, w)?;
-    let mut pool = Pool {
-        slots,
-        masks,
-        book,
-        n,
-    };
-    insert_unmark(&mut pool, seat as usize, v, w, end);
+    insert_unmark(slots, masks, book, n, seat as usize, v, w, end);
     Ok(())
 }
 
@@ -155,28 +179,47 @@ fn remove_blocked(pool: &View<'_>, book: &[u32], end: Option<End>) -> Result<(),
     )
 }
 
-// Besides the slot at a place, another slot of its leaf is active. It stands here, since of a field of a pool that is handed on to be read, no proof knows afterwards that it
-// is as it was.
-fn shared(pool: &Pool, place: usize) -> bool
-    requires { place < slots_length pool.now.n }
-    ensures { result ≡ not (alone_s pool.now.n pool.now.masks.now place) }
+// The remove by a walk that changes slots on its way. Here alone the slices become a pool.
+fn remove_by_walk(
+    slots: &mut [u32],
+    masks: &mut [u64],
+    book: &mut [u32],
+    n: usize,
+    seat: usize,
+    v: usize,
+)
+    requires { (Sized n slots.old masks.old book.old) × (seat < 8) }
+    ensures { st n slots.new masks.new book.new ≡ remove_m 3 (2 ∷ 2 ∷ []) n (point_of v) seat (st n slots.old masks.old book.old) }
 {
-    remove::shared(pool.masks, pool.n, place)
+    let mut pool = Pool {
+        slots,
+        masks,
+        book,
+        n,
+    };
+    pool.remove(2, seat, v);
 }
 
 // The remove, where nothing refuses it and its walk ended there. At a leaf in which another slot is active no branch is released, and no second walk is made.
-fn remove_unmark(pool: &mut Pool, seat: usize, v: usize, end: Option<End>)
-    requires { EndsAt pool.old.n (state pool.old) seat (point_of v) end }
-    ensures kept { Same pool.old pool.new }
-    ensures turned { state pool.new ≡ mark_s seat 0 (remove_m 3 (2 ∷ 2 ∷ []) pool.old.n (point_of v) seat (state pool.old)) }
+fn remove_unmark(
+    slots: &mut [u32],
+    masks: &mut [u64],
+    book: &mut [u32],
+    n: usize,
+    seat: usize,
+    v: usize,
+    end: Option<End>,
+)
+    requires { (Sized n slots.old masks.old book.old) × EndsAt n (st n slots.old masks.old book.old) seat (point_of v) end }
+    ensures { st n slots.new masks.new book.new ≡ mark_s seat 0 (remove_m 3 (2 ∷ 2 ∷ []) n (point_of v) seat (st n slots.old masks.old book.old)) }
 {
     match end {
-        Some(at) if at.level == 0 && shared(&*pool, at.place) => remove::hide_at(
-            pool.masks, pool.n, at.place,
-        ),
-        _ => pool.remove(2, seat, v),
+        Some(at) if at.level == 0 && remove::shared(masks, n, at.place) => {
+            remove::hide_at(masks, n, at.place)
+        }
+        _ => remove_by_walk(slots, masks, book, n, seat, v),
     }
-    cells::set_mark(pool.book, seat, 0);
+    cells::set_mark(book, seat, 0);
 }
 
 // The voxel is hidden, a branch left empty on its path is released, and the seat is no longer filled.
@@ -194,12 +237,6 @@ pub fn remove(
     let view = View { slots, masks, n };
     let end = view.seek(seat as usize, geometry::path(v));
     remove_blocked(&view, book, end)?;
-    let mut pool = Pool {
-        slots,
-        masks,
-        book,
-        n,
-    };
-    remove_unmark(&mut pool, seat as usize, v, end);
+    remove_unmark(slots, masks, book, n, seat as usize, v, end);
     Ok(())
 }

@@ -10,7 +10,12 @@ bounds-view-group c = let g = node_groups c.requires c.size_in.ensures in omega 
 pub invariant_of-result : goal.invariant_of-result
 invariant_of-result c =
     let g = node_groups c.requires c.size_in.ensures in
-    record { order = omega (arith, g.some); within = omega (arith, c.word_of-group.ensures, g.some, g.fit) }
+    let v = c.args.view.now.fit in
+    record {
+      order = omega (arith, g.some);
+      words = omega (arith, c.word_of-group.ensures, g.some, g.fit, v.slots_fit);
+      kids = omega (arith, c.word_of-group.ensures, g.some, g.fit, v.masks_fit);
+    }
 
 pub returns : goal.returns
 returns c = λ book.

@@ -1,15 +1,13 @@
-use Rattle.std.proofs.Common.{rules}
 use mathlib.Core.Bool.{not}
 use mathlib.Core.Path.{refl, ap}
-use Rattle.seats.specs.Call.{One, Insert}
+use Rattle.seats.specs.Call.{Insert}
 use Rattle.nodes.specs.Layout.{st}
-use Rattle.nodes.specs.Pool.{state}
 use Rattle.nodes.specs.Walk.{point_of}
 use Rattle.sound.proofs.Checks.{passed, failed}
 use Rattle.voxels.specs.Answers.{mem_of, done_of}
 use Rattle.voxels.proofs.Promises.{admits, barred_says}
 use Rattle.voxels.proofs.Ends.{ends_in}
-use Rattle.voxels.proofs.Turns.{inserting, insert_4, edit_blocked, edit_done, returned}
+use Rattle.voxels.proofs.Turns.{inserting, insert_4, edit_blocked, edit_done}
 use Rattle.voxels.proofs.voxel.insert.Goals as goal
 
 pub returns-in_err-n : goal.returns-in_err-n
@@ -40,18 +38,14 @@ returns-in_err-insert_blocked c p e =
     (c.in_err-insert_blocked.ensures (point_of a.v) a.seat (d.1, c.seek-end.ensures _ _ c.path.ensures.0)) c.from_residual-in_err-insert_blocked.ensures.1
 
 pub insert_unmark-requires : goal.insert_unmark-requires
-unfolding state
-insert_unmark-requires c =
-    let a = c.args in
-    (passed _ c.finite_word.ensures (ap not c.if-not-finite_word.false), (c.in_ok-n.ensures.fit.1, c.seek-end.ensures _ _ c.path.ensures.0))
+insert_unmark-requires c = (c.in_ok-n.ensures.fit.0, passed _ c.finite_word.ensures (ap not c.if-not-finite_word.false), (c.in_ok-n.ensures.fit.1, c.seek-end.ensures _ _ c.path.ensures.0))
 
 pub returns : goal.returns
-unfolding state
 returns c p e =
     let a = c.args in
     let d = admits (mem_of a.slots.now a.masks.now a.book.now) _ a.seat c.in_ok-n.ensures.told in
     let u = c.insert_unmark in
-    returned u.new.pool d.0 u.ensures.kept.n u.ensures.turned (One a.seat (Insert p a.w))
-    (edit_done (inserting a.w (passed _ c.finite_word.ensures (ap not c.if-not-finite_word.false))) d.0 a.seat a.v d.1 p e
-    (c.in_ok-insert_blocked.ensures (point_of a.v) a.seat (d.1, c.seek-end.ensures _ _ c.path.ensures.0)))
-    c.type_inv.slots c.type_inv.masks c.type_inv.book (search rules) (search rules) (search rules)
+    let k = u.auto in
+    edit_done (inserting a.w (passed _ c.finite_word.ensures (ap not c.if-not-finite_word.false))) d.0 a.seat a.v d.1 p e
+    (c.in_ok-insert_blocked.ensures (point_of a.v) a.seat (d.1, c.seek-end.ensures _ _ c.path.ensures.0))
+    (mem_of u.new.slots u.new.masks u.new.book) (record { slots = k.slots; masks = k.masks; book = k.book }) u.ensures

@@ -1,13 +1,11 @@
-use Rattle.std.proofs.Common.{rules}
 use mathlib.Core.Path.{refl}
-use Rattle.seats.specs.Call.{One, Remove}
+use Rattle.seats.specs.Call.{Remove}
 use Rattle.nodes.specs.Layout.{st}
-use Rattle.nodes.specs.Pool.{state}
 use Rattle.nodes.specs.Walk.{point_of}
 use Rattle.voxels.specs.Answers.{mem_of, done_of}
 use Rattle.voxels.proofs.Promises.{admits, barred_says}
 use Rattle.voxels.proofs.Ends.{ends_in}
-use Rattle.voxels.proofs.Turns.{removing, edit_blocked, edit_done, returned}
+use Rattle.voxels.proofs.Turns.{removing, edit_blocked, edit_done}
 use Rattle.voxels.proofs.voxel.remove.Goals as goal
 
 pub returns-in_err-n : goal.returns-in_err-n
@@ -31,16 +29,14 @@ returns-in_err-remove_blocked c p e =
     c.from_residual-in_err-remove_blocked.ensures.1
 
 pub remove_unmark-requires : goal.remove_unmark-requires
-unfolding state
-remove_unmark-requires c = (c.in_ok-n.ensures.fit.1, c.seek-end.ensures _ _ c.path.ensures.0)
+remove_unmark-requires c = (c.in_ok-n.ensures.fit.0, (c.in_ok-n.ensures.fit.1, c.seek-end.ensures _ _ c.path.ensures.0))
 
 pub returns : goal.returns
-unfolding state
 returns c p e =
     let a = c.args in
     let d = admits (mem_of a.slots.now a.masks.now a.book.now) _ a.seat c.in_ok-n.ensures.told in
     let u = c.remove_unmark in
-    returned u.new.pool d.0 u.ensures.kept.n u.ensures.turned (One a.seat (Remove p))
-    (edit_done removing d.0 a.seat a.v d.1 p e
-    (c.in_ok-remove_blocked.ensures (point_of a.v) a.seat (d.1, c.seek-end.ensures _ _ c.path.ensures.0)))
-    c.type_inv.slots c.type_inv.masks c.type_inv.book (search rules) (search rules) (search rules)
+    let k = u.auto in
+    edit_done (removing) d.0 a.seat a.v d.1 p e
+    (c.in_ok-remove_blocked.ensures (point_of a.v) a.seat (d.1, c.seek-end.ensures _ _ c.path.ensures.0))
+    (mem_of u.new.slots u.new.masks u.new.book) (record { slots = k.slots; masks = k.masks; book = k.book }) u.ensures

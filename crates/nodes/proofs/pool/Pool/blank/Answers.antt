@@ -1,7 +1,10 @@
 use Rattle.nodes.specs.Pool.{state}
-use Rattle.nodes.proofs.Changes.{cell_step}
+use Rattle.nodes.proofs.States.{cells_of}
 use Rattle.nodes.proofs.pool.Pool.blank.Goals as goal
+
+pub blank-requires : goal.blank-requires
+blank-requires c = (cells_of c.args.self.now.sized, c.requires)
 
 pub returns-clause-turned : goal.returns-clause-turned
 unfolding state
-returns-clause-turned c = cell_step _ _ _ _ _ _ _ _ _ c.requires c.fill.ensures c.paint.ensures
+returns-clause-turned c = c.blank.ensures _

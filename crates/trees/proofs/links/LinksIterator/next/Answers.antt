@@ -14,7 +14,7 @@ pub returns-in-Some-clause-steps : goal.returns-in-Some-clause-steps
 returns-in-Some-clause-steps c =
     let s = c.loop-i.self in
     c.loop-i.invariant ∙ links_first _ _ _ s.order c.in-Some.ensures.steps.0
-    ∙ ap (λ (w : ℕ). get_or s.view.slots.now (64 * s.group + c.in-Some.i) 0 ∷ links_left s.view.slots.now s.view.masks.now s.last s.group w) (sym c.in-Some.ensures.steps.1)
+    ∙ ap (λ (w : ℕ). get_or s.slots.now (64 * s.group + c.in-Some.i) 0 ∷ links_left s.slots.now s.masks.now s.last s.group w) (sym c.in-Some.ensures.steps.1)
 
 pub returns-in-Some-clause-goes : goal.returns-in-Some-clause-goes
 returns-in-Some-clause-goes c = record { on = λ _. (tt, tt, one_less (returns-in-Some-clause-steps c)); keeps = tt; rests = λ _. tt }
@@ -31,4 +31,4 @@ pub loop-i-preserved : goal.loop-i-preserved
 loop-i-preserved c =
     let s = c.loop-i.self in
     c.loop-i.invariant ∙ links_on _ _ _ s.group c.in_default.ensures.steps.0
-    ∙ ap (links_left s.view.slots.now s.view.masks.now s.last (s.group + 1)) (sym c.on_in-self.ensures)
+    ∙ ap (links_left s.slots.now s.masks.now s.last (s.group + 1)) (sym c.on_in-self.ensures)
